@@ -1,0 +1,3 @@
+pub mod Checked
+pub mod Claims
+pub mod Changes
