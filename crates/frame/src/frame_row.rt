@@ -1,0 +1,12 @@
+// A frame as a plain row.
+use crate::content::Content;
+use crate::content::ContentClone;
+use crate::counters::TicketNumber;
+
+// A frame's numbers with its body's row, in no range: it may lie in an array.
+#[derive(Clone, Copy)]
+pub struct FrameRow<R> {
+    pub sender: u32,
+    pub clock: TicketNumber,
+    pub content: Content<R>,
+}

@@ -1,0 +1,123 @@
+// Making a frame and its parts.
+ghost use mathlib.Core.Path.{_≡_};
+ghost use Rattle.std.specs.Options.{okOr};
+ghost use Rattle.body.specs.Faults.{unfit};
+ghost use Rattle.frame.specs.Contents.{kind-of};
+ghost use Rattle.frame.specs.Ranges.{content-ok};
+ghost use Rattle.frame.specs.Frames.{printer-of, payload-of, frame-of};
+use crate::content::Content;
+use crate::counters::TicketNumber;
+use crate::frame::Frame;
+use crate::frame_kind::FrameKind;
+use crate::payload::Payload;
+use crate::printer_number::PrinterNumber;
+use body::WireFault;
+use body::WireRefusal;
+
+// What the making of a value outside its ranges answers.
+const UNFIT: WireFault = WireFault { refusal: WireRefusal::OutOfRange, byte: 0 };
+
+impl PrinterNumber {
+    pub fn new(value: u32) -> Result<PrinterNumber, WireFault>
+        ensures { λ r. ⌜ r ≡ okOr (printer-of value) unfit ⌝ }
+    {
+        if value <= 7 { Ok(PrinterNumber { value }) } else { Err(UNFIT) }
+    }
+
+    pub fn value(self) -> u32
+        ensures { λ r. ⌜ r ≡ self .value ⌝ }
+    {
+        self.value
+    }
+}
+
+impl<B: Copy> Content<B> {
+    // Whether the content is in its ranges in a frame with this clock.
+    fn in_range(self, clock: TicketNumber) -> bool
+        ensures { λ r. ⌜ r ≡ content-ok (clock .0) self ⌝ }
+    {
+        match self {
+            Content::Data { number, sequencer, .. } => 1 <= number.0 && sequencer <= 7,
+            Content::Up { number, sequencer, .. } => 1 <= number.0 && sequencer <= 7,
+            Content::Down { number, sequencer, .. } => 1 <= number.0 && sequencer <= 7,
+            Content::Ticket { of, number } => 1 <= clock.0 && of <= 7 && 1 <= number.0,
+            Content::Reassign { last, sent, sequencer, .. } => last.0 < sent.0 && sent.0 - last.0 <= 7 && sequencer <= 7,
+            Content::Clock => true,
+        }
+    }
+}
+
+impl<B: Copy> Payload<B> {
+    pub fn new(clock: TicketNumber, content: Content<B>) -> Result<Payload<B>, WireFault>
+        ensures { λ r. ⌜ r ≡ okOr (payload-of clock content) unfit ⌝ }
+    {
+        if content.in_range(clock) { Ok(Payload { clock, content }) } else { Err(UNFIT) }
+    }
+
+    pub fn clock(self) -> TicketNumber
+        ensures { λ r. ⌜ r ≡ self .clock ⌝ }
+    {
+        self.clock
+    }
+
+    pub fn content(self) -> Content<B>
+        ensures { λ r. ⌜ r ≡ self .content ⌝ }
+    {
+        self.content
+    }
+}
+
+impl<B: Copy> Frame<B> {
+    // A frame from plain numbers.
+    pub fn new(sender: u32, clock: TicketNumber, content: Content<B>) -> Result<Frame<B>, WireFault>
+        ensures { λ r. ⌜ r ≡ okOr (frame-of sender clock content) unfit ⌝ }
+    {
+        let sender = PrinterNumber::new(sender)?;
+        let payload = Payload::new(clock, content)?;
+        Ok(Frame { sender, payload })
+    }
+
+    // A frame from parts that carry their ranges: it is never refused.
+    pub fn of(sender: PrinterNumber, payload: Payload<B>) -> Frame<B>
+        ensures { λ r. ⌜ r ≡ record { sender = sender; payload = payload } ⌝ }
+    {
+        Frame { sender, payload }
+    }
+
+    pub fn sender(self) -> PrinterNumber
+        ensures { λ r. ⌜ r ≡ self .sender ⌝ }
+    {
+        self.sender
+    }
+
+    pub fn payload(self) -> Payload<B>
+        ensures { λ r. ⌜ r ≡ self .payload ⌝ }
+    {
+        self.payload
+    }
+
+    pub fn clock(self) -> TicketNumber
+        ensures { λ r. ⌜ r ≡ self .payload .clock ⌝ }
+    {
+        self.payload.clock
+    }
+
+    pub fn content(self) -> Content<B>
+        ensures { λ r. ⌜ r ≡ self .payload .content ⌝ }
+    {
+        self.payload.content
+    }
+
+    pub fn kind(self) -> FrameKind
+        ensures { λ r. ⌜ r ≡ kind-of (self .payload .content) ⌝ }
+    {
+        match self.payload.content {
+            Content::Data { .. } => FrameKind::Data,
+            Content::Up { .. } => FrameKind::Up,
+            Content::Down { .. } => FrameKind::Down,
+            Content::Ticket { .. } => FrameKind::Ticket,
+            Content::Reassign { .. } => FrameKind::Reassign,
+            Content::Clock => FrameKind::Clock,
+        }
+    }
+}
