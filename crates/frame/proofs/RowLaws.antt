@@ -29,10 +29,11 @@ frame-of-parts {B} s k c f e = go (printer-of s) (payload-of k c) refl refl e wh
   go (Some x) (Some y) p q h =
       let a = checked-some (is-printer s) (λ t. record { value = s; ok = t }) x p in
       let b = checked-some (payload-ok k c) (λ t. record { clock = k; content = c; ok = t }) y q in
-      let d : f ≡ record { sender = x; payload = y } = cc in
-      (ap (λ (w : Frame B). w .sender .value) d ∙ sym (ap (λ (w : PrinterNumber). w .value) (a .1)),
+      let d : f ≡ record { sender = x; payload = y } = cc in (
+        ap (λ (w : Frame B). w .sender .value) d ∙ sym (ap (λ (w : PrinterNumber). w .value) (a .1)),
         ap (λ (w : Frame B). w .payload .clock) d ∙ sym (ap (λ (w : Payload B). w .clock) (b .1)),
-        ap (λ (w : Frame B). w .payload .content) d ∙ sym (ap (λ (w : Payload B). w .content) (b .1)))
+        ap (λ (w : Frame B). w .payload .content) d ∙ sym (ap (λ (w : Payload B). w .content) (b .1)),
+      )
   go (Some x) None p q h = absurd (let z : _≡_ {A = ℕ} 0 1 = cc in omega arith)
   go None u p q h = absurd (let z : _≡_ {A = ℕ} 0 1 = cc in omega arith)
 

@@ -6,12 +6,33 @@ use crate::counters::RoleNumber;
 // A message names the sequencer that is to ticket it, with that printer's role number.
 #[derive(Clone, Copy)]
 pub enum Content<B> {
-    Data { number: MessageNumber, sequencer: u32, role: RoleNumber, body: B },
-    Up { number: MessageNumber, sequencer: u32, role: RoleNumber },
-    Down { number: MessageNumber, sequencer: u32, role: RoleNumber },
+    Data {
+        number: MessageNumber,
+        sequencer: u32,
+        role: RoleNumber,
+        body: B,
+    },
+    Up {
+        number: MessageNumber,
+        sequencer: u32,
+        role: RoleNumber,
+    },
+    Down {
+        number: MessageNumber,
+        sequencer: u32,
+        role: RoleNumber,
+    },
     // of which sender's message the frame is a ticket; the ticket's number is the frame's clock
-    Ticket { of: u32, number: MessageNumber },
+    Ticket {
+        of: u32,
+        number: MessageNumber,
+    },
     // the sender's messages after `last` up to `sent` go to this sequencer
-    Reassign { last: MessageNumber, sent: MessageNumber, sequencer: u32, role: RoleNumber },
+    Reassign {
+        last: MessageNumber,
+        sent: MessageNumber,
+        sequencer: u32,
+        role: RoleNumber,
+    },
     Clock,
 }

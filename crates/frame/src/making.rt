@@ -15,13 +15,20 @@ use body::WireFault;
 use body::WireRefusal;
 
 // What the making of a value outside its ranges answers.
-const UNFIT: WireFault = WireFault { refusal: WireRefusal::OutOfRange, byte: 0 };
+const UNFIT: WireFault = WireFault {
+    refusal: WireRefusal::OutOfRange,
+    byte: 0,
+};
 
 impl PrinterNumber {
     pub fn new(value: u32) -> Result<PrinterNumber, WireFault>
         ensures { λ r. ⌜ r ≡ okOr (printer-of value) unfit ⌝ }
     {
-        if value <= 7 { Ok(PrinterNumber { value }) } else { Err(UNFIT) }
+        if value <= 7 {
+            Ok(PrinterNumber { value })
+        } else {
+            Err(UNFIT)
+        }
     }
 
     pub fn value(self) -> u32
@@ -37,11 +44,28 @@ impl<B: Copy> Content<B> {
         ensures { λ r. ⌜ r ≡ content-ok (clock .0) self ⌝ }
     {
         match self {
-            Content::Data { number, sequencer, .. } => 1 <= number.0 && sequencer <= 7,
-            Content::Up { number, sequencer, .. } => 1 <= number.0 && sequencer <= 7,
-            Content::Down { number, sequencer, .. } => 1 <= number.0 && sequencer <= 7,
+            Content::Data {
+                number,
+                sequencer,
+                ..
+            } => 1 <= number.0 && sequencer <= 7,
+            Content::Up {
+                number,
+                sequencer,
+                ..
+            } => 1 <= number.0 && sequencer <= 7,
+            Content::Down {
+                number,
+                sequencer,
+                ..
+            } => 1 <= number.0 && sequencer <= 7,
             Content::Ticket { of, number } => 1 <= clock.0 && of <= 7 && 1 <= number.0,
-            Content::Reassign { last, sent, sequencer, .. } => last.0 < sent.0 && sent.0 - last.0 <= 7 && sequencer <= 7,
+            Content::Reassign {
+                last,
+                sent,
+                sequencer,
+                ..
+            } => last.0 < sent.0 && sent.0 - last.0 <= 7 && sequencer <= 7,
             Content::Clock => true,
         }
     }
@@ -51,7 +75,11 @@ impl<B: Copy> Payload<B> {
     pub fn new(clock: TicketNumber, content: Content<B>) -> Result<Payload<B>, WireFault>
         ensures { λ r. ⌜ r ≡ okOr (payload-of clock content) unfit ⌝ }
     {
-        if content.in_range(clock) { Ok(Payload { clock, content }) } else { Err(UNFIT) }
+        if content.in_range(clock) {
+            Ok(Payload { clock, content })
+        } else {
+            Err(UNFIT)
+        }
     }
 
     pub fn clock(self) -> TicketNumber

@@ -12,11 +12,47 @@ fn content_to_row<B: Body>(content: Content<B>) -> Content<B::Row>
     ensures { λ r. ⌜ r ≡ content-row row content ⌝ }
 {
     match content {
-        Content::Data { number, sequencer, role, body } => Content::Data { number, sequencer, role, body: body.to_row() },
-        Content::Up { number, sequencer, role } => Content::Up { number, sequencer, role },
-        Content::Down { number, sequencer, role } => Content::Down { number, sequencer, role },
+        Content::Data {
+            number,
+            sequencer,
+            role,
+            body,
+        } => Content::Data {
+            number,
+            sequencer,
+            role,
+            body: body.to_row(),
+        },
+        Content::Up {
+            number,
+            sequencer,
+            role,
+        } => Content::Up {
+            number,
+            sequencer,
+            role,
+        },
+        Content::Down {
+            number,
+            sequencer,
+            role,
+        } => Content::Down {
+            number,
+            sequencer,
+            role,
+        },
         Content::Ticket { of, number } => Content::Ticket { of, number },
-        Content::Reassign { last, sent, sequencer, role } => Content::Reassign { last, sent, sequencer, role },
+        Content::Reassign {
+            last,
+            sent,
+            sequencer,
+            role,
+        } => Content::Reassign {
+            last,
+            sent,
+            sequencer,
+            role,
+        },
         Content::Clock => Content::Clock,
     }
 }
@@ -25,14 +61,50 @@ fn content_from_row<B: Body>(content: Content<B::Row>) -> Option<Content<B>>
     ensures { λ r. ⌜ r ≡ content-remade remade content ⌝ }
 {
     match content {
-        Content::Data { number, sequencer, role, body } => match B::from_row(body) {
-            Some(body) => Some(Content::Data { number, sequencer, role, body }),
+        Content::Data {
+            number,
+            sequencer,
+            role,
+            body,
+        } => match B::from_row(body) {
+            Some(body) => Some(Content::Data {
+                number,
+                sequencer,
+                role,
+                body,
+            }),
             None => None,
         },
-        Content::Up { number, sequencer, role } => Some(Content::Up { number, sequencer, role }),
-        Content::Down { number, sequencer, role } => Some(Content::Down { number, sequencer, role }),
+        Content::Up {
+            number,
+            sequencer,
+            role,
+        } => Some(Content::Up {
+            number,
+            sequencer,
+            role,
+        }),
+        Content::Down {
+            number,
+            sequencer,
+            role,
+        } => Some(Content::Down {
+            number,
+            sequencer,
+            role,
+        }),
         Content::Ticket { of, number } => Some(Content::Ticket { of, number }),
-        Content::Reassign { last, sent, sequencer, role } => Some(Content::Reassign { last, sent, sequencer, role }),
+        Content::Reassign {
+            last,
+            sent,
+            sequencer,
+            role,
+        } => Some(Content::Reassign {
+            last,
+            sent,
+            sequencer,
+            role,
+        }),
         Content::Clock => Some(Content::Clock),
     }
 }
@@ -40,7 +112,11 @@ fn content_from_row<B: Body>(content: Content<B::Row>) -> Option<Content<B>>
 fn row_of<B: Body>(frame: Frame<B>) -> FrameRow<B::Row>
     ensures { λ r. ⌜ r ≡ frame-row row frame ⌝ }
 {
-    FrameRow { sender: frame.sender.value, clock: frame.payload.clock, content: content_to_row(frame.payload.content) }
+    FrameRow {
+        sender: frame.sender.value,
+        clock: frame.payload.clock,
+        content: content_to_row(frame.payload.content),
+    }
 }
 
 fn frame_of<B: Body>(given: FrameRow<B::Row>) -> Option<Frame<B>>

@@ -8,6 +8,6 @@ returns g c =
     record {
       value = c .row-of .ensures;
       again =
-        ap (frame-remade (g .B·Body .remade)) (c .row-of .ensures) ∙
-        frame-again (g .B·Body .row) (g .B·Body .remade) (g .B·Body·met .remaking) (c .args .self)
+          ap (frame-remade (g .B·Body .remade)) (c .row-of .ensures) ∙
+          frame-again (g .B·Body .row) (g .B·Body .remade) (g .B·Body·met .remaking) (c .args .self);
     }

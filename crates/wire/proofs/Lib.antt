@@ -1,0 +1,6 @@
+pub mod Fronts
+pub mod WordBytes
+pub mod Scans
+pub mod FrameWords
+pub mod Filled
+pub mod Readings
