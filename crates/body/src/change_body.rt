@@ -1,6 +1,6 @@
 // Making a change, and a change as words and as a row.
 ghost use mathlib.Core.Path.{_≡_};
-ghost use mathlib.Core.Bool.{true};
+ghost use mathlib.Core.List.{[], _∷_};
 ghost use Rattle.std.specs.Options.{okOr};
 ghost use Rattle.body.specs.Faults.{unfit};
 ghost use Rattle.body.specs.Ranges.{change-number, change-named, uses};
@@ -65,6 +65,27 @@ impl TemplateChange {
                 byte: 0,
             }),
         }
+    }
+
+    // A field of a template gets a value.
+    pub fn set(template: u32, field: u32, value: u32) -> TemplateChange
+        ensures { λ r. ⌜ change-words r ≡ 0 ∷ (template ∷ (field ∷ (value ∷ []))) ⌝ }
+    {
+        TemplateChange { what: ChangeKind::Set, template, field, value }
+    }
+
+    // A field of a template has no value any more.
+    pub fn clear_field(template: u32, field: u32) -> TemplateChange
+        ensures { λ r. ⌜ change-words r ≡ 1 ∷ (template ∷ (field ∷ (0 ∷ []))) ⌝ }
+    {
+        TemplateChange { what: ChangeKind::ClearField, template, field, value: 0 }
+    }
+
+    // A template and all of its fields end.
+    pub fn drop_template(template: u32) -> TemplateChange
+        ensures { λ r. ⌜ change-words r ≡ 2 ∷ (template ∷ (0 ∷ (0 ∷ []))) ⌝ }
+    {
+        TemplateChange { what: ChangeKind::DropTemplate, template, field: 0, value: 0 }
     }
 
     pub fn what(self) -> ChangeKind

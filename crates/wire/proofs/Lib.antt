@@ -4,3 +4,4 @@ pub mod Scans
 pub mod FrameWords
 pub mod Filled
 pub mod Readings
+pub mod Written

@@ -2,7 +2,7 @@
 use mathlib.Core.Path.{_≡_, refl, sym, ap, ap₂, subst, _∙_}
 use mathlib.Core.Bool.{Bool, true, false, cond}
 use mathlib.Core.List.{List, [], _∷_, _++_}
-use Prim.Native.Nat.{ℕ, suc, _+_, _/_, _%_, _<_, _≤_}
+use Prim.Native.Nat.{ℕ, suc, _+_, _*_, _/_, _%_, _<_, _≤_}
 use native.Mathlib.Omega.{arith}
 use lib.Dec.{leb}
 use lib.ListN.{length, getD, take, drop}
@@ -25,10 +25,12 @@ use Rattle.frame.specs.declared.FrameKind.the-variants as kinds
 use Rattle.wire.specs.Bytes.{word-of, word-at, word-bytes, words-bytes}
 use Rattle.wire.specs.Layout.{kind-count, kind-allows, rest-words, frame-words, frame-bytes}
 use Rattle.wire.specs.Rebuilt.{frame-rebuilt}
-use Rattle.wire.specs.Reading.{words-on, words-read, words-by-kind, behind-kind, Reads}
+use Rattle.wire.specs.Reading.{words-on, words-read, words-by-kind, behind-kind, Reads, ReadsBack}
+use Rattle.wire.specs.Writing.{write-answer, write-after}
 use Rattle.wire.specs.Filling.{RestReads}
 use Rattle.wire.proofs.WordBytes.{Bytes, bytes-again}
 use Rattle.wire.proofs.Scans.{Scanned, scan-read, scan-written}
+use Rattle.wire.proofs.Written.{write-front, ok-same}
 use Rattle.wire.proofs.FrameWords.{frame-ranged, frame-long, frame-rebuilds, frame-spelled}
 
 pub bytes-drop : (n : ℕ) (bs : List ℕ) → Bytes bs → Bytes (drop n bs)
@@ -36,9 +38,6 @@ bytes-drop n bs small i = subst (λ x. x < 256) (sym (getD-drop n bs i 0)) (smal
 
 some-same : {A : Type 0} {x y : A} → Some x ≡ Some y → x ≡ y
 some-same e = cc
-
-ok-same : {A E : Type 0} {x y : A} → _≡_ {A = Result A E} (Ok x) (Ok y) → x ≡ y
-ok-same e = cc
 
 pub kind-named-number : (k : FrameKind) → kind-named (kind-number k) ≡ Some k
 kind-named-number kinds.Data = refl
@@ -179,3 +178,10 @@ module _ {B : Type 0} (words : B → List ℕ) (allows : List ℕ → ℕ → Bo
       let e : frame-words words g ≡ frame-words words f = ok-same (sym h ∙ words-again f) in
       ap Ok (same-words g f e)
   reads-back f (Err x) h = absurd (let a = words-again f in let z : _≡_ {A = ℕ} 0 1 = cc in omega arith)
+
+  pub write-back : (f : Frame B) (out after : List ℕ) (r : Result ℕ WireFault) → r ≡ write-answer out (frame-bytes words f) →
+      after ≡ write-after out (frame-bytes words f) → made r (λ n. ReadsBack words allows count (take n after) f)
+  write-back f out after (Ok n) a b =
+      let e = write-front out after (frame-bytes words f) n a b in
+      λ r h. reads-back f r (subst (λ bs. Reads words allows count bs r) e h)
+  write-back f out after (Err x) a b = tt

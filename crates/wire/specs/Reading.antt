@@ -60,3 +60,7 @@ words-read allows count (a ∷ b ∷ c ∷ d ∷ more) = words-by-kind allows co
 abbrev pub Reads : {B : Type 0} → (B → List ℕ) → (List ℕ → ℕ → Bool) → ℕ → List ℕ → Result (Frame B) WireFault → Type 0
 Reads words allows count bs (Ok f) = words-read allows count bs ≡ Ok (frame-words words f)
 Reads words allows count bs (Err e) = words-read allows count bs ≡ Err e
+
+-- reading these bytes can answer nothing else than this frame
+abbrev pub ReadsBack : {B : Type 0} → (B → List ℕ) → (List ℕ → ℕ → Bool) → ℕ → List ℕ → Frame B → Type 0
+ReadsBack {B} words allows count bs f = (r : Result (Frame B) WireFault) → Reads words allows count bs r → r ≡ Ok f

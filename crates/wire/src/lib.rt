@@ -1,4 +1,44 @@
-// Frames in bytes: writing them, and reading any bytes.
+// Frames in bytes: writing one, and reading any bytes. All that a frame is made of can be named from here too.
 mod layout;
 mod read;
 mod rebuild;
+mod write;
+
+pub use body::Body;
+pub use body::ChangeBody;
+pub use body::ChangeKind;
+pub use body::ChangeKindPartialEq;
+pub use body::ChangeRow;
+pub use body::ClaimBody;
+pub use body::ClaimRow;
+pub use body::NumberClaim;
+pub use body::NumberClaimPartialEq;
+pub use body::TemplateChange;
+pub use body::TemplateChangePartialEq;
+pub use body::WireFault;
+pub use body::WireFaultPartialEq;
+pub use body::WireRefusal;
+pub use body::WireRefusalPartialEq;
+pub use frame::Content;
+pub use frame::ContentClone;
+pub use frame::Frame;
+pub use frame::FrameKind;
+pub use frame::FrameKindPartialEq;
+pub use frame::FrameRow;
+pub use frame::FrameRowClone;
+pub use frame::MessageNumber;
+pub use frame::MessageNumberPartialEq;
+pub use frame::MessageNumberPartialOrd;
+pub use frame::Payload;
+pub use frame::PrinterNumber;
+pub use frame::PrinterNumberPartialEq;
+pub use frame::RoleNumber;
+pub use frame::RoleNumberPartialEq;
+pub use frame::RoleNumberPartialOrd;
+pub use frame::TicketNumber;
+pub use frame::TicketNumberPartialEq;
+pub use frame::TicketNumberPartialOrd;
+pub use read::read_frame;
+pub use write::MAX_FRAME_BYTES;
+pub use write::frame_length;
+pub use write::write_frame;
