@@ -17,10 +17,10 @@ pub enum ChangeKind {
 // A change of a template. What its kind does not use is 0.
 #[derive(Clone, Copy, PartialEq, Eq, Debug)]
 pub struct TemplateChange {
-    pub(crate) what: ChangeKind,
-    pub(crate) template: u32,
-    pub(crate) field: u32,
-    pub(crate) value: u32,
+    pub what: ChangeKind,
+    pub template: u32,
+    pub field: u32,
+    pub value: u32,
     ghost ok: { change-ok what template field value ≡ true },
 }
 

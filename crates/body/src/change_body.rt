@@ -71,45 +71,36 @@ impl TemplateChange {
     pub fn set(template: u32, field: u32, value: u32) -> TemplateChange
         ensures { λ r. ⌜ change-words r ≡ 0 ∷ (template ∷ (field ∷ (value ∷ []))) ⌝ }
     {
-        TemplateChange { what: ChangeKind::Set, template, field, value }
+        TemplateChange {
+            what: ChangeKind::Set,
+            template,
+            field,
+            value,
+        }
     }
 
     // A field of a template has no value any more.
     pub fn clear_field(template: u32, field: u32) -> TemplateChange
         ensures { λ r. ⌜ change-words r ≡ 1 ∷ (template ∷ (field ∷ (0 ∷ []))) ⌝ }
     {
-        TemplateChange { what: ChangeKind::ClearField, template, field, value: 0 }
+        TemplateChange {
+            what: ChangeKind::ClearField,
+            template,
+            field,
+            value: 0,
+        }
     }
 
     // A template and all of its fields end.
     pub fn drop_template(template: u32) -> TemplateChange
         ensures { λ r. ⌜ change-words r ≡ 2 ∷ (template ∷ (0 ∷ (0 ∷ []))) ⌝ }
     {
-        TemplateChange { what: ChangeKind::DropTemplate, template, field: 0, value: 0 }
-    }
-
-    pub fn what(self) -> ChangeKind
-        ensures { λ r. ⌜ r ≡ self .what ⌝ }
-    {
-        self.what
-    }
-
-    pub fn template(self) -> u32
-        ensures { λ r. ⌜ r ≡ self .template ⌝ }
-    {
-        self.template
-    }
-
-    pub fn field(self) -> u32
-        ensures { λ r. ⌜ r ≡ self .field ⌝ }
-    {
-        self.field
-    }
-
-    pub fn value(self) -> u32
-        ensures { λ r. ⌜ r ≡ self .value ⌝ }
-    {
-        self.value
+        TemplateChange {
+            what: ChangeKind::DropTemplate,
+            template,
+            field: 0,
+            value: 0,
+        }
     }
 }
 

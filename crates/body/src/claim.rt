@@ -6,8 +6,8 @@ ghost use Rattle.body.specs.Ranges.{claim-ok};
 // A claim of the next `count` numbers of a series: series 0 to 15, count 1 to 1,000,000.
 #[derive(Clone, Copy, PartialEq, Eq, Debug)]
 pub struct NumberClaim {
-    pub(crate) series: u32,
-    pub(crate) count: u32,
+    pub series: u32,
+    pub count: u32,
     ghost ok: { claim-ok series count ≡ true },
 }
 

@@ -22,18 +22,6 @@ impl NumberClaim {
             })
         }
     }
-
-    pub fn series(self) -> u32
-        ensures { λ r. ⌜ r ≡ self .series ⌝ }
-    {
-        self.series
-    }
-
-    pub fn count(self) -> u32
-        ensures { λ r. ⌜ r ≡ self .count ⌝ }
-    {
-        self.count
-    }
 }
 
 pub impl Body for NumberClaim as ClaimBody {

@@ -1,6 +1,9 @@
 // The refusals of the wire, and the fault that names one.
 ghost use mathlib.Core.Path.{_≡_};
-ghost use Rattle.body.specs.Faults.{refusal-number};
+ghost use Rattle.std.specs.declared.option.Option.the-variants.{Some};
+ghost use Rattle.body.specs.Faults.{refusal-number, fault-text};
+use std::error::Error;
+use std::fmt;
 
 // Why bytes are no frame, or why a frame, a change or a claim cannot be made or written.
 #[derive(Clone, Copy, PartialEq, Eq, Debug)]
@@ -30,3 +33,16 @@ pub struct WireFault {
     pub refusal: WireRefusal,
     pub byte: usize,
 }
+
+// As a program reports it: `refused 26 byte 8`.
+pub impl fmt::Display for WireFault as WireFaultDisplay {
+    ghost shown = { λ e. Some (fault-text e) };
+
+    fn fmt<W: fmt::Write>(&self, f: &mut fmt::Formatter<W>) -> fmt::Result {
+        let number = self.refusal.number();
+        let byte = self.byte;
+        write!(f, "refused {number} byte {byte}")
+    }
+}
+
+pub impl Error for WireFault as WireFaultError {}

@@ -1,10 +1,12 @@
 // What a frame says besides its sender and clock.
+use crate::MessageNumberPartialEq;
+use crate::RoleNumberPartialEq;
 use crate::counters::MessageNumber;
 use crate::counters::RoleNumber;
 
 // Plain numbers, in no range yet: a `Payload` holds only a content that is in its ranges.
 // A message names the sequencer that is to ticket it, with that printer's role number.
-#[derive(Clone, Copy)]
+#[derive(Clone, Copy, PartialEq, Eq)]
 pub enum Content<B> {
     Data {
         number: MessageNumber,

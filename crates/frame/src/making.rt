@@ -30,12 +30,6 @@ impl PrinterNumber {
             Err(UNFIT)
         }
     }
-
-    pub fn value(self) -> u32
-        ensures { λ r. ⌜ r ≡ self .value ⌝ }
-    {
-        self.value
-    }
 }
 
 impl<B: Copy> Content<B> {
@@ -81,18 +75,6 @@ impl<B: Copy> Payload<B> {
             Err(UNFIT)
         }
     }
-
-    pub fn clock(self) -> TicketNumber
-        ensures { λ r. ⌜ r ≡ self .clock ⌝ }
-    {
-        self.clock
-    }
-
-    pub fn content(self) -> Content<B>
-        ensures { λ r. ⌜ r ≡ self .content ⌝ }
-    {
-        self.content
-    }
 }
 
 impl<B: Copy> Frame<B> {
@@ -103,37 +85,6 @@ impl<B: Copy> Frame<B> {
         let sender = PrinterNumber::new(sender)?;
         let payload = Payload::new(clock, content)?;
         Ok(Frame { sender, payload })
-    }
-
-    // A frame from parts that carry their ranges: it is never refused.
-    pub fn of(sender: PrinterNumber, payload: Payload<B>) -> Frame<B>
-        ensures { λ r. ⌜ r ≡ record { sender = sender; payload = payload } ⌝ }
-    {
-        Frame { sender, payload }
-    }
-
-    pub fn sender(self) -> PrinterNumber
-        ensures { λ r. ⌜ r ≡ self .sender ⌝ }
-    {
-        self.sender
-    }
-
-    pub fn payload(self) -> Payload<B>
-        ensures { λ r. ⌜ r ≡ self .payload ⌝ }
-    {
-        self.payload
-    }
-
-    pub fn clock(self) -> TicketNumber
-        ensures { λ r. ⌜ r ≡ self .payload .clock ⌝ }
-    {
-        self.payload.clock
-    }
-
-    pub fn content(self) -> Content<B>
-        ensures { λ r. ⌜ r ≡ self .payload .content ⌝ }
-    {
-        self.payload.content
     }
 
     pub fn kind(self) -> FrameKind

@@ -6,6 +6,6 @@ ghost use Rattle.frame.specs.Ranges.{is-printer};
 // A printer's number, 0 to 7.
 #[derive(Clone, Copy, PartialEq, Eq, Debug)]
 pub struct PrinterNumber {
-    pub(crate) value: u32,
+    pub value: u32,
     ghost ok: { is-printer value ≡ true },
 }

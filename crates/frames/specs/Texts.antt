@@ -14,9 +14,6 @@ use Rattle.frame.specs.declared.Content.the-variants.{Data, Up, Down, Ticket, R
 use Rattle.frame.specs.declared.FrameKind.{FrameKind}
 use Rattle.frame.specs.declared.FrameKind.the-variants as kinds
 
-abbrev pub refused-text : ℕ → ℕ → List ℕ
-refused-text number byte = codes "refused " ++ (decimal number ++ (codes " byte " ++ decimal byte))
-
 abbrev pub kind-name : FrameKind → List ℕ
 kind-name kinds.Data = codes "data"
 kind-name kinds.Up = codes "up"

@@ -3,7 +3,7 @@ ghost use mathlib.Core.Path.{_≡_};
 ghost use mathlib.Core.List.{_++_};
 ghost use Rattle.std.specs.Of.String.{string-bytes};
 ghost use Rattle.std.specs.Vec.{made};
-ghost use Rattle.frames.specs.Texts.{head-text, message-text, ticket-text, reassign-text, led, body-text, kind-name, frame-text};
+ghost use Rattle.frames.specs.Texts.{head-text, message-text, ticket-text, reassign-text, led, body-text, kind-name, content-text, frame-text};
 use body::Body;
 use frame::Content;
 use frame::Frame;
@@ -20,28 +20,52 @@ fn head_text(heap: Global, name: &str, sender: u32, clock: u32) -> Result<String
     format!(heap, "{name} sender={sender} clock={clock}")
 }
 
-fn message_text(heap: Global, head: &str, number: MessageNumber, sequencer: u32, role: RoleNumber) -> Result<String, AllocError>
+fn message_text(
+    heap: Global,
+    head: &str,
+    number: MessageNumber,
+    sequencer: u32,
+    role: RoleNumber,
+) -> Result<String, AllocError>
     ensures { λ r. ⌜ made r (λ s. string-bytes s ≡ message-text (now (head .entry)) number sequencer role) ⌝ }
 {
     let number = number.0;
     let role = role.0;
-    format!(heap, "{head} number={number} sequencer={sequencer} role={role}")
+    format!(
+        heap,
+        "{head} number={number} sequencer={sequencer} role={role}"
+    )
 }
 
-fn ticket_text(heap: Global, head: &str, of: u32, number: MessageNumber) -> Result<String, AllocError>
+fn ticket_text(
+    heap: Global,
+    head: &str,
+    of: u32,
+    number: MessageNumber,
+) -> Result<String, AllocError>
     ensures { λ r. ⌜ made r (λ s. string-bytes s ≡ ticket-text (now (head .entry)) of number) ⌝ }
 {
     let number = number.0;
     format!(heap, "{head} of={of} number={number}")
 }
 
-fn reassign_text(heap: Global, head: &str, last: MessageNumber, sent: MessageNumber, sequencer: u32, role: RoleNumber) -> Result<String, AllocError>
+fn reassign_text(
+    heap: Global,
+    head: &str,
+    last: MessageNumber,
+    sent: MessageNumber,
+    sequencer: u32,
+    role: RoleNumber,
+) -> Result<String, AllocError>
     ensures { λ r. ⌜ made r (λ s. string-bytes s ≡ reassign-text (now (head .entry)) last sent sequencer role) ⌝ }
 {
     let last = last.0;
     let sent = sent.0;
     let role = role.0;
-    format!(heap, "{head} last={last} sent={sent} sequencer={sequencer} role={role}")
+    format!(
+        heap,
+        "{head} last={last} sent={sent} sequencer={sequencer} role={role}"
+    )
 }
 
 fn push_word(heap: Global, text: &mut String, lead: &str, word: u32) -> Result<(), AllocError>
@@ -75,21 +99,49 @@ fn kind_name(kind: FrameKind) -> &'static str
     }
 }
 
-pub(crate) fn frame_text<B: Body>(heap: Global, frame: Frame<B>) -> Result<String, AllocError>
-    ensures { λ r. ⌜ made r (λ s. string-bytes s ≡ frame-text words frame) ⌝ }
+fn content_text<B: Body>(
+    heap: Global,
+    head: &str,
+    content: Content<B>,
+) -> Result<String, AllocError>
+    ensures { λ r. ⌜ made r (λ s. string-bytes s ≡ content-text words (now (head .entry)) content) ⌝ }
 {
-    let head = head_text(heap, kind_name(frame.kind()), frame.sender().value(), frame.clock().0)?;
-    let head = head.as_str();
-    match frame.content() {
-        Content::Data { number, sequencer, role, body } => {
+    match content {
+        Content::Data {
+            number,
+            sequencer,
+            role,
+            body,
+        } => {
             let mut text = message_text(heap, head, number, sequencer, role)?;
             push_body(heap, &mut text, body)?;
             Ok(text)
         }
-        Content::Up { number, sequencer, role } => message_text(heap, head, number, sequencer, role),
-        Content::Down { number, sequencer, role } => message_text(heap, head, number, sequencer, role),
+        Content::Up {
+            number,
+            sequencer,
+            role,
+        } => message_text(heap, head, number, sequencer, role),
+        Content::Down {
+            number,
+            sequencer,
+            role,
+        } => message_text(heap, head, number, sequencer, role),
         Content::Ticket { of, number } => ticket_text(heap, head, of, number),
-        Content::Reassign { last, sent, sequencer, role } => reassign_text(heap, head, last, sent, sequencer, role),
+        Content::Reassign {
+            last,
+            sent,
+            sequencer,
+            role,
+        } => reassign_text(heap, head, last, sent, sequencer, role),
         Content::Clock => String::from_str(heap, head),
     }
+}
+
+pub(crate) fn frame_text<B: Body>(heap: Global, frame: Frame<B>) -> Result<String, AllocError>
+    ensures { λ r. ⌜ made r (λ s. string-bytes s ≡ frame-text words frame) ⌝ }
+{
+    let name = kind_name(frame.kind());
+    let head = head_text(heap, name, frame.sender.value, frame.payload.clock.0)?;
+    content_text(heap, head.as_str(), frame.payload.content)
 }

@@ -35,11 +35,11 @@ front-more ws e i h =
     let l = front-long ws i (omega arith) in
     let p = take-at (words-bytes (take i ws)) (drop (4 * i) e) (4 * i) l in
     let q : drop (4 * i + 4) (front ws e i) ≡ drop (4 * (i + 1)) e =
-      sym (drop-drop 4 (4 * i) (front ws e i)) ∙
-      (ap (drop 4) (drop-at (words-bytes (take i ws)) (drop (4 * i) e) (4 * i) l) ∙
-      (drop-drop 4 (4 * i) e ∙ ap (λ k. drop k e) (omega arith))) in
+    sym (drop-drop 4 (4 * i) (front ws e i)) ∙
+    (ap (drop 4) (drop-at (words-bytes (take i ws)) (drop (4 * i) e) (4 * i) l) ∙
+    (drop-drop 4 (4 * i) e ∙ ap (λ k. drop k e) (omega arith))) in
     let r : words-bytes (take i ws) ++ word-bytes (getD ws i 0) ≡ words-bytes (take (i + 1) ws) =
-      sym (words-bytes-more (take i ws) (getD ws i 0)) ∙ ap words-bytes (sym (take-more ws i 0 h)) in
+    sym (words-bytes-more (take i ws) (getD ws i 0)) ∙ ap words-bytes (sym (take-more ws i 0 h)) in
     ap₂ (λ xs ys. xs ++ (word-bytes (getD ws i 0) ++ ys)) p q ∙
     (sym (append-assoc (words-bytes (take i ws)) (word-bytes (getD ws i 0)) (drop (4 * (i + 1)) e)) ∙
     ap (λ xs. xs ++ drop (4 * (i + 1)) e) r)

@@ -44,9 +44,9 @@ fn frame_word<B: Body>(frame: Frame<B>, i: usize) -> u32
 {
     match i {
         0 => frame.kind().number(),
-        1 => frame.sender().value(),
-        2 => frame.clock().0,
-        _ => content_word(frame.content(), i - 3),
+        1 => frame.sender.value,
+        2 => frame.payload.clock.0,
+        _ => content_word(frame.payload.content, i - 3),
     }
 }
 
@@ -89,7 +89,10 @@ fn write_any<B: Body>(frame: Frame<B>, out: &mut [u8]) -> Result<usize, WireFaul
 {
     let length = frame_length(frame);
     if out.len() < length {
-        return Err(WireFault { refusal: WireRefusal::EndsTooSoon, byte: out.len() / 4 * 4 });
+        return Err(WireFault {
+            refusal: WireRefusal::EndsTooSoon,
+            byte: out.len() / 4 * 4,
+        });
     }
     put_words(frame, out);
     Ok(length)

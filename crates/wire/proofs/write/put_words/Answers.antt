@@ -20,10 +20,12 @@ pub loop-i-again : need.loop-i-again
 loop-i-again g c =
     let ws = frame-words (g .B·Body .words) (c .args .frame) in
     let i = c .loop-i .i in
-    let h : i < length ws = omega (arith, c .frame-words-count .ensures .value) in
-    ((omega arith), c .put-word .ensures ∙
-    (ap₂ (λ xs w. take (4 * i) xs ++ (word-bytes w ++ drop (4 * i + 4) xs)) (c .loop-i .inv .1) (c .frame-word .ensures) ∙
-    front-more ws (c .args .out .now) i h))
+    let h : i < length ws = omega (arith, c .frame-words-count .ensures .value) in (
+      (omega arith),
+      c .put-word .ensures ∙
+          (ap₂ (λ xs w. take (4 * i) xs ++ (word-bytes w ++ drop (4 * i + 4) xs)) (c .loop-i .inv .1) (c .frame-word .ensures) ∙
+          front-more ws (c .args .out .now) i h),
+    )
 
 pub returns : need.returns
 returns g c =

@@ -8,8 +8,8 @@ returns g c =
       answer = c .write-any .ensures .answer;
       after = c .write-any .ensures .after;
       back =
-        write-back (g .B·Body .words) (g .B·Body .allows) (g .B·Body .count) (g .B·Body .rebuilt)
-        (law .counted) (law .ranged) (law .written) (law .rebuilding)
-        (c .args .frame) (c .args .out .now) (c .write-any .last .out) (c .write-any .result)
-        (c .write-any .ensures .answer) (c .write-any .ensures .after)
+          write-back (g .B·Body .words) (g .B·Body .allows) (g .B·Body .count) (g .B·Body .rebuilt)
+          (law .counted) (law .ranged) (law .written) (law .rebuilding)
+          (c .args .frame) (c .args .out .now) (c .write-any .last .out) (c .write-any .result)
+          (c .write-any .ensures .answer) (c .write-any .ensures .after);
     }

@@ -1,0 +1,3 @@
+// Worked examples of the wire, as tests: the words were written by hand from the format.
+#[cfg(test)]
+mod tests;
