@@ -1,10 +1,23 @@
 -- The program's answers.
+use mathlib.Core.Path.{_≡_}
+use mathlib.Core.Bool.{Bool}
 use mathlib.Core.List.{List, _++_}
 use Prim.Native.Nat.{ℕ}
 use lib.Chars.{codes}
 use lib.ListN.{getD, drop}
 use Rattle.std.specs.shelf.Lists.{joined}
 use Rattle.std.specs.Written.{decimal}
+use Rattle.std.specs.declared.option.Option.{Option}
+use Rattle.std.specs.declared.option.Option.the-variants.{Some, None}
+use Rattle.std.specs.declared.result.Result.{Result}
+use Rattle.std.specs.declared.result.Result.the-variants.{Ok, Err}
+use Rattle.body.specs.Faults.{fault-text}
+use Rattle.body.specs.Changes.{change-words, change-allows}
+use Rattle.body.specs.Claims.{claim-words, claim-allows}
+use Rattle.body.specs.declared.WireFault.{WireFault}
+use Rattle.dump.specs.declared.BodyKind.{BodyKind}
+use Rattle.dump.specs.declared.BodyKind.the-variants.{Change, Claim}
+use Rattle.wire.specs.Reading.{Reads}
 use Rattle.frame.specs.Contents.{kind-of}
 use Rattle.frame.specs.declared.MessageNumber.{MessageNumber}
 use Rattle.frame.specs.declared.RoleNumber.{RoleNumber}
@@ -56,3 +69,19 @@ content-text words head Clock = head
 abbrev pub frame-text : {B : Type 0} → (B → List ℕ) → Frame B → List ℕ
 frame-text words f =
     content-text words (head-text (kind-name (kind-of (f .payload .content))) (f .sender .value) (f .payload .clock .0)) (f .payload .content)
+
+abbrev pub result-text : {B : Type 0} → (B → List ℕ) → Result (Frame B) WireFault → List ℕ
+result-text words (Ok f) = frame-text words f
+result-text words (Err e) = fault-text e
+
+-- the text of what reading a block answers
+pub record Block-text {B : Type 0} (words : B → List ℕ) (allows : List ℕ → ℕ → Bool) (count : ℕ) (block text : List ℕ) : Type 0 where
+  pub answer : Result (Frame B) WireFault
+  pub reads : Reads words allows count block answer
+  pub shown : text ≡ result-text words answer
+
+-- what is answered to a line that means this
+abbrev pub Line-text : Option (BodyKind × List ℕ) → List ℕ → Type 0
+Line-text None text = text ≡ codes "not hex"
+Line-text (Some (Change, block)) text = Block-text change-words change-allows 4 block text
+Line-text (Some (Claim, block)) text = Block-text claim-words claim-allows 2 block text

@@ -1,0 +1,4 @@
+pub mod Circles
+pub mod NetLaws
+pub mod StoredLaws
+pub mod Takes

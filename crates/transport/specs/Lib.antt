@@ -1,0 +1,4 @@
+pub mod Faults
+pub mod Nets
+pub mod Circles
+pub mod Stored
