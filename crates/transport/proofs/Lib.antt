@@ -2,3 +2,4 @@ pub mod Circles
 pub mod NetLaws
 pub mod StoredLaws
 pub mod Takes
+pub mod SeriesLaws

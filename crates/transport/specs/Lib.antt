@@ -2,3 +2,4 @@ pub mod Faults
 pub mod Nets
 pub mod Circles
 pub mod Stored
+pub mod Series

@@ -2,6 +2,7 @@
 mod draining;
 mod faults;
 mod meaning;
+mod series;
 mod storing;
 
 pub use draining::drain;
@@ -15,4 +16,5 @@ pub use faults::TransportRefusal;
 pub use faults::TransportRefusalDebug;
 pub use faults::TransportRefusalPartialEq;
 pub use meaning::Transport;
+pub use series::sure_of_posts;
 pub use storing::stored_frame;
