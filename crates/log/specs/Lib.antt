@@ -1,0 +1,3 @@
+pub mod Logs
+pub mod Meaning
+pub mod Behind
