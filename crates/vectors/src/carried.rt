@@ -45,12 +45,11 @@ fn finds<T: Transport<Body = NumberClaim>>(
     receiver: u32,
     clock: Option<u32>,
 ) -> Result<(), Fail> {
-    match (t.look(sender, receiver), clock) {
-        (Some(frame), Some(clock)) => check(
-            frame.sender.value == sender && frame.payload.clock.0 == clock,
-        ),
-        (found, clock) => check(found.is_none() && clock.is_none()),
-    }
+    let found = match t.look(sender, receiver) {
+        Some(frame) => Some(frame.payload.clock.0),
+        None => None,
+    };
+    check(found == clock)
 }
 
 fn numbers_not_there<T: Transport<Body = NumberClaim>>(t: &mut T) -> Result<(), Fail> {
