@@ -2,6 +2,7 @@
 ghost use mathlib.Core.Path.{_≡_};
 ghost use Rattle.std.specs.Options.{okOr};
 ghost use Rattle.body.specs.Faults.{unfit};
+ghost use Rattle.body.specs.Ranges.{claim-ok};
 ghost use Rattle.body.specs.Claims.{claim-of, claim-words, claim-allows, claim-rebuilt, claim-row, claim-remade};
 use crate::claim::ClaimRow;
 use crate::claim::NumberClaim;
@@ -9,11 +10,17 @@ use crate::faults::WireFault;
 use crate::faults::WireRefusal;
 use crate::kind::Body;
 
+fn claim_fits(series: u32, count: u32) -> bool
+    ensures { λ r. ⌜ r ≡ claim-ok series count ⌝ }
+{
+    series < 16 && 1 <= count && count <= 1_000_000
+}
+
 impl NumberClaim {
     pub fn new(series: u32, count: u32) -> Result<NumberClaim, WireFault>
         ensures { λ r. ⌜ r ≡ okOr (claim-of series count) unfit ⌝ }
     {
-        if series < 16 && 1 <= count && count <= 1_000_000 {
+        if claim_fits(series, count) {
             Ok(NumberClaim { series, count })
         } else {
             Err(WireFault {

@@ -1,4 +1,4 @@
-// Frames: what printers send each other, and how a frame stands in bytes.
+// Frames: what printers send each other. Their parts carry their ranges, and a frame has a plain row.
 mod content;
 mod counters;
 mod frame;

@@ -3,7 +3,7 @@ ghost use mathlib.Core.Path.{_≡_};
 ghost use Rattle.std.specs.Options.{okOr};
 ghost use Rattle.body.specs.Faults.{unfit};
 ghost use Rattle.frame.specs.Contents.{kind-of};
-ghost use Rattle.frame.specs.Ranges.{content-ok};
+ghost use Rattle.frame.specs.Ranges.{is-printer, content-ok};
 ghost use Rattle.frame.specs.Frames.{printer-of, payload-of, frame-of};
 use crate::content::Content;
 use crate::counters::TicketNumber;
@@ -20,11 +20,17 @@ const UNFIT: WireFault = WireFault {
     byte: 0,
 };
 
+fn is_printer(value: u32) -> bool
+    ensures { λ r. ⌜ r ≡ is-printer value ⌝ }
+{
+    value <= 7
+}
+
 impl PrinterNumber {
     pub fn new(value: u32) -> Result<PrinterNumber, WireFault>
         ensures { λ r. ⌜ r ≡ okOr (printer-of value) unfit ⌝ }
     {
-        if value <= 7 {
+        if is_printer(value) {
             Ok(PrinterNumber { value })
         } else {
             Err(UNFIT)

@@ -10,12 +10,14 @@ use Rattle.std.specs.Of.Vec.{vec-items}
 use Rattle.std.specs.declared.option.Option.{Option}
 use Rattle.transport.specs.Nets.{accepts, hears}
 use Rattle.transport.specs.Stored.{stored}
-use Rattle.log.specs.Logs.{at-pair, carries}
+use Rattle.transport.proofs.NetLaws.{accepts-below}
+use Rattle.transport.specs.Tables.{at-pair}
+use Rattle.log.specs.Logs.{carries}
 use Rattle.log.specs.Behind.{Further-behind}
 use Rattle.log.specs.Meaning.{log-meaning}
 use Rattle.log.specs.declared.state.LogTransport.{LogTransport}
 use Rattle.log.proofs.LogLaws.{carries-parts, carries-heard, waits-there}
-use Rattle.log.proofs.Posts.{accepts-below, accepts-room}
+use Rattle.log.proofs.Posts.{accepts-room}
 use Rattle.log.proofs.Tables.{further-next}
 
 module _ {B R : Type 0} (remade : R → Option B) (t u : LogTransport B R) (s k : ℕ) (b : Further-behind t u s k) (ha : accepts (log-meaning remade t) s ≡ true) where

@@ -13,7 +13,8 @@ use Rattle.frame.specs.declared.Frame.{Frame}
 use Rattle.frame.specs.declared.FrameRow.{FrameRow}
 use Rattle.transport.specs.Nets.{after-close}
 use Rattle.transport.proofs.NetLaws.{net-path}
-use Rattle.log.specs.Logs.{at-pair, is-open-in, carries, last-frames, log-net}
+use Rattle.transport.specs.Tables.{at-pair}
+use Rattle.log.specs.Logs.{is-open-in, carries, last-frames, log-net}
 
 module _ {B R : Type 0} (frame : FrameRow R → Frame B) (n limit : ℕ) (flags : List Bool) (ends behinds : List ℕ) (cells : List (FrameRow R)) (p : ℕ) where
   pub log-closed : p < n → p < length flags →

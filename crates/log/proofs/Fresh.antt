@@ -14,12 +14,8 @@ use Rattle.frame.specs.declared.Frame.{Frame}
 use Rattle.frame.specs.declared.FrameRow.{FrameRow}
 use Rattle.transport.specs.Nets.{fresh}
 use Rattle.transport.proofs.NetLaws.{net-path}
+use Rattle.transport.proofs.TableLaws.{zeros}
 use Rattle.log.specs.Logs.{log-net, last-frames, carries}
-
-pub zeros : (n k : ℕ) → _≡_ {A = ℕ} (getD (replicate n 0) k 0) 0
-zeros zero k = refl
-zeros (suc n) zero = refl
-zeros (suc n) (suc k) = zeros n k
 
 -- the logs of n senders fit into the cells
 pub logs-fit : (n cells : ℕ) → n * (cells / n) ≤ cells

@@ -14,22 +14,8 @@ use Rattle.frame.specs.declared.FrameRow.{FrameRow}
 use Rattle.transport.specs.Nets.{hears}
 use Rattle.transport.specs.Stored.{blank}
 use Rattle.transport.proofs.Circles.{length-along}
-use Rattle.log.specs.Logs.{at-pair, carries, cell, cursor, is-open-in, log-net}
-
-pub cond-same : {X : Type 0} (b : Bool) (x y z : X) → (b ≡ true → x ≡ y) → cond b x z ≡ cond b y z
-cond-same true x y z h = h refl
-cond-same false x y z h = refl
-
--- what holds of each number of a list holds after a write of one of which it holds
-pub after-set : (P : ℕ → Type 0) (xs : List ℕ) (i v : ℕ) → P v → ((k : ℕ) → P (getD xs k 0)) → (k : ℕ) → P (getD (set xs i v) k 0)
-after-set P xs i v h all k =
-    elim (cases-eq k i) [ inl e ↦ at-same k e | inr e ↦ subst P (sym (getD-set-other xs i k v 0 e)) (all k) ]
-  where
-    at-same : (k : ℕ) → k ≡ i → P (getD (set xs i v) k 0)
-    at-same k e = elim (cases-lt i (length xs)) [
-      | inl l ↦ subst P (sym (ap (λ y. getD (set xs i v) y 0) e ∙ getD-set-same xs i v 0 l)) h
-      | inr l ↦ subst P (sym (ap (λ y. getD y k 0) (set-past xs i v l))) (all k)
-    ]
+use Rattle.transport.specs.Tables.{at-pair}
+use Rattle.log.specs.Logs.{carries, cell, cursor, is-open-in, log-net}
 
 module _ (n : ℕ) (flags : List Bool) where
   -- what is known of a pair that carries frames

@@ -17,12 +17,10 @@ use Rattle.transport.specs.Circles.{around, along}
 use Rattle.transport.specs.Nets.{Net, accepts, hears, after-post}
 use Rattle.transport.specs.Stored.{blank}
 use Rattle.transport.proofs.Circles.{around-below, around-apart, around-back, around-behind, along-same, along-more}
-use Rattle.transport.proofs.NetLaws.{net-path, all-below-at}
-use Rattle.log.specs.Logs.{at-pair, carries, cell, cursor, last-frames, log-net}
-use Rattle.log.proofs.LogLaws.{cond-same, carries-parts, carries-heard, waits-there}
-
-pub accepts-below : {B : Type 0} (t : Net B) (s : ℕ) → accepts t s ≡ true → s < t .size
-accepts-below t s h = ltb-true s (t .size) (and-parts (ltb s (t .size)) _ h .0)
+use Rattle.transport.proofs.NetLaws.{net-path, all-below-at, cond-same, accepts-below}
+use Rattle.transport.specs.Tables.{at-pair}
+use Rattle.log.specs.Logs.{carries, cell, cursor, last-frames, log-net}
+use Rattle.log.proofs.LogLaws.{carries-parts, carries-heard, waits-there}
 
 -- where a post is accepted, each pair that it lengthens has room
 pub accepts-room : {B : Type 0} (t : Net B) (s j : ℕ) → accepts t s ≡ true → j < t .size → hears t s j ≡ true →
@@ -33,18 +31,6 @@ accepts-room t s j ha hj hh =
   where
     go : (h : Bool) (a b : ℕ) → h ≡ true → not (h && leb a b) ≡ true → b < a
     go h a b p q = grind (arith, tells)
-
--- a post that is refused changes nothing
-pub post-refused : {B : Type 0} (t : Net B) (f : Frame B) → accepts t (f .sender .value) ≡ false → t ≡ after-post t f
-post-refused t f h =
-    net-path t (after-post t f) refl refl (λ j. refl) (λ i j.
-    sym (cond-false (eqb i (f .sender .value) && (accepts t i && hears t i j)) _ _ (no i (hears t i j))))
-  where
-    no : (i : ℕ) (x : Bool) → (eqb i (f .sender .value) && (accepts t i && x)) ≡ false
-    no i x = elim (cases-eq i (f .sender .value)) [
-      | inl e ↦ and-right (eqb i (f .sender .value)) _ (and-left (accepts t i) x (ap (accepts t) e ∙ h))
-      | inr e ↦ and-left (eqb i (f .sender .value)) _ (ne-eqb i (f .sender .value) e)
-    ]
 
 module _ {B R : Type 0} (frame : FrameRow R → Frame B) (limit : ℕ) (cells : List (FrameRow R)) (row : FrameRow R) where
   -- the log of the sender, one frame longer

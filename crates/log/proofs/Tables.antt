@@ -10,7 +10,8 @@ use lib.ListN.{length, set}
 use Rattle.std.proofs.shelf.Lists.{getD-set-same, getD-set-other}
 use Rattle.std.proofs.shelf.Tests.{cond-true, cond-false, cases-eq, lt-ltb}
 use Rattle.std.proofs.shelf.Ways.{tells}
-use Rattle.log.specs.Logs.{at-pair, carries}
+use Rattle.transport.specs.Tables.{at-pair}
+use Rattle.log.specs.Logs.{carries}
 use Rattle.log.proofs.LogLaws.{carries-parts}
 
 cases-pair : (i s j k : ℕ) → ((i ≡ s) × (j ≡ k)) ⊎ (i ≡ s → j ≡ k → ⊥)

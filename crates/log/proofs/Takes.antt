@@ -17,9 +17,10 @@ use Rattle.transport.specs.Circles.{along}
 use Rattle.transport.specs.Nets.{Net, after-take, rest, first, oldest, has}
 use Rattle.transport.specs.Stored.{blank}
 use Rattle.transport.proofs.Circles.{around-below, around-nearer, along-rest, along-first}
-use Rattle.transport.proofs.NetLaws.{net-path}
-use Rattle.log.specs.Logs.{at-pair, carries, cell, cursor, last-frames, log-net}
-use Rattle.log.proofs.LogLaws.{cond-same, carries-parts}
+use Rattle.transport.proofs.NetLaws.{net-path, cond-same}
+use Rattle.transport.specs.Tables.{at-pair}
+use Rattle.log.specs.Logs.{carries, cell, cursor, last-frames, log-net}
+use Rattle.log.proofs.LogLaws.{carries-parts}
 
 -- the test of a pair, in two parts
 pub pair-true : (i s j d : ℕ) (x : Bool) → ((eqb i s && eqb j d) && x) ≡ true → (i ≡ s) × (j ≡ d)

@@ -4,7 +4,8 @@ use mathlib.Core.Bool.{_&&_, cond}
 use Prim.Native.Nat.{ℕ, _+_, _<_}
 use lib.Dec.{ltb, eqb}
 use lib.ListN.{length}
-use Rattle.log.specs.Logs.{at-pair, carries}
+use Rattle.transport.specs.Tables.{at-pair}
+use Rattle.log.specs.Logs.{carries}
 use Rattle.log.specs.declared.state.LogTransport.{LogTransport}
 
 -- now is before, but that each receiver below k to whom s carries is one frame further behind

@@ -9,14 +9,11 @@ use Rattle.frame.specs.declared.FrameRow.{FrameRow}
 use Rattle.transport.specs.Circles.{around, along}
 use Rattle.transport.specs.Nets.{Net}
 use Rattle.transport.specs.Stored.{blank}
+use Rattle.transport.specs.Tables.{at-pair}
 
 -- the cell of a place in the log of sender i
 abbrev pub cell : ℕ → ℕ → ℕ → ℕ
 cell limit i place = i * limit + place
-
--- what a table of eight rows of eight numbers has for a pair
-abbrev pub at-pair : List ℕ → ℕ → ℕ → ℕ
-at-pair xs i j = getD xs (i * 8 + j) 0
 
 -- the place in a log of a receiver that is so many frames behind its end
 abbrev pub cursor : ℕ → ℕ → ℕ → ℕ

@@ -15,12 +15,9 @@ use Rattle.frame.specs.declared.FrameRow.{FrameRow}
 use Rattle.transport.specs.Circles.{along}
 use Rattle.transport.specs.Nets.{fresh}
 use Rattle.transport.proofs.NetLaws.{net-path}
-use Rattle.ring.specs.Rings.{ring-net, reaches, frame-at, at-pair}
-
-pub zeros : (n k : ℕ) → _≡_ {A = ℕ} (getD (replicate n 0) k 0) 0
-zeros zero k = refl
-zeros (suc n) zero = refl
-zeros (suc n) (suc k) = zeros n k
+use Rattle.transport.specs.Tables.{at-pair}
+use Rattle.transport.proofs.TableLaws.{zeros}
+use Rattle.ring.specs.Rings.{ring-net, reaches, frame-at}
 
 pub square-pos : (n : ℕ) → 2 ≤ n → 0 < n * n
 square-pos n h = let e = mul-le 1 1 n n (omega arith) (omega arith) in omega arith

@@ -95,19 +95,6 @@ module _ {B : Type 0} (t : Net B) (f : Frame B) where
       free : (h : Bool) (a b : ℕ) → h ≡ true → not (h && leb b a) ≡ true → a < b
       free h a b p q = grind (arith, tells)
 
--- a post that is not accepted changes nothing
-pub post-refused : {B : Type 0} (t : Net B) (f : Frame B) → accepts t (f .sender .value) ≡ false → t ≡ after-post t f
-post-refused t f h = net-path _ _ refl refl (λ j. refl) (λ i j.
-    cond-both (eqb i (f .sender .value) && (accepts t i && hears t i j)) _ _ (λ z. t .waiting i j ≡ z)
-    (λ e.
-    let p = and-parts (eqb i (f .sender .value)) (accepts t i && hears t i j) e in
-    let q = and-parts (accepts t i) (hears t i j) (p .1) in
-    absurd (both-ways (accepts t i) (ap (accepts t) (eqb-true i (f .sender .value) (p .0)) ∙ h) (q .0)))
-    (λ _. refl))
-
-pub accepts-below : {B : Type 0} (t : Net B) (s : ℕ) → accepts t s ≡ true → s < t .size
-accepts-below t s h = ltb-true s (t .size) (and-parts (ltb s (t .size)) (all-below (t .size) (λ j. not (hears t s j && is-full t s j))) h .0)
-
 -- a post is accepted where one could be made
 pub accepts-spare : {B : Type 0} (t : Net B) (s : ℕ) → 1 ≤ t .limit → accepts t s ≡ ltb 0 (most-posts t s)
 accepts-spare t s l = both (ltb s (t .size)) _ _ (all (t .size))

@@ -19,8 +19,9 @@ use Rattle.transport.specs.Circles.{around, along}
 use Rattle.transport.specs.Nets.{Net, first, rest, oldest, after-take, after-close}
 use Rattle.transport.specs.Stored.{stored, blank}
 use Rattle.transport.proofs.Circles.{around-below, around-apart, along-same, along-more, along-rest, along-first, length-along}
-use Rattle.transport.proofs.NetLaws.{net-path}
-use Rattle.ring.specs.Rings.{cell, at-pair, reaches, frame-at, ring-net, pushed}
+use Rattle.transport.proofs.NetLaws.{net-path, cond-same}
+use Rattle.transport.specs.Tables.{at-pair}
+use Rattle.ring.specs.Rings.{cell, reaches, frame-at, ring-net, pushed}
 
 pub cell-below : (n limit i j p : ℕ) → i < n → j < n → p < limit → cell n limit i j p < n * n * limit
 cell-below n limit i j p hi hj hp = digits-lt (digits-lt hi hj) hp
@@ -36,16 +37,6 @@ cell-same n limit i j p a b q hj hb hp hq e =
       s,
     )
 
--- what holds of each number of a table holds after a write of one of which it holds
-pub after-set : (P : ℕ → Type 0) (xs : List ℕ) (i v : ℕ) → P v → ((k : ℕ) → P (getD xs k 0)) → (k : ℕ) → P (getD (set xs i v) k 0)
-after-set P xs i v h all k = elim (cases-eq k i) [ inl e ↦ at-same k e | inr e ↦ subst P (sym (getD-set-other xs i k v 0 e)) (all k) ]
-  where
-    at-same : (k : ℕ) → k ≡ i → P (getD (set xs i v) k 0)
-    at-same k e = elim (cases-lt i (length xs)) [
-      | inl l ↦ subst P (sym (ap (λ y. getD (set xs i v) y 0) e ∙ getD-set-same xs i v 0 l)) h
-      | inr l ↦ subst P (sym (ap (λ y. getD y k 0) (set-past xs i v l))) (all k)
-    ]
-
 -- a function of pairs that is changed at one pair
 pub at-one : {A : Type 0} (a b c : ℕ → ℕ → A) (s d : ℕ) → a s d ≡ b s d → ((i j : ℕ) → (i ≡ s → j ≡ d → ⊥) → a i j ≡ c i j) →
     (i j : ℕ) → a i j ≡ cond (eqb i s && eqb j d) (b i j) (c i j)
@@ -59,10 +50,6 @@ at-one a b c s d here else i j =
 
     pair-false : (i s j d : ℕ) → (eqb i s && eqb j d) ≡ false → i ≡ s → j ≡ d → ⊥
     pair-false i s j d h p q = grind (arith, tells)
-
-cond-same : {X : Type 0} (b : Bool) (x y z : X) → (b ≡ true → x ≡ y) → cond b x z ≡ cond b y z
-cond-same true x y z h = h refl
-cond-same false x y z h = refl
 
 cond-and : {X : Type 0} (a b : Bool) (x y : X) → cond a (cond b x y) y ≡ cond (a && b) x y
 cond-and true b x y = refl

@@ -10,14 +10,11 @@ use Rattle.frame.specs.declared.FrameRow.{FrameRow}
 use Rattle.transport.specs.Nets.{Net}
 use Rattle.transport.specs.Circles.{along}
 use Rattle.transport.specs.Stored.{stored, blank}
+use Rattle.transport.specs.Tables.{at-pair}
 
 -- the cell of place p in the circle of the pair i, j, among n printers
 abbrev pub cell : ℕ → ℕ → ℕ → ℕ → ℕ → ℕ
 cell n limit i j p = (i * n + j) * limit + p
-
--- what a table of eight rows of eight numbers has for a pair
-abbrev pub at-pair : List ℕ → ℕ → ℕ → ℕ
-at-pair xs i j = getD xs (i * 8 + j) 0
 
 -- whether frames may wait for a pair: both printers are there, and the receiver is open
 abbrev pub reaches : ℕ → List Bool → ℕ → ℕ → Bool

@@ -38,6 +38,7 @@ impl<B: Body> RingTransport<B> {
         self.cells.len() / pairs
     }
 
+    // The rings of n printers, all empty and open.
     fn start(&mut self, n: u32, limit: usize)
         requires { ⌜ n ≤ 8 ⌝ }
         requires { ⌜ 1 ≤ limit ⌝ }

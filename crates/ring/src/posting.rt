@@ -4,8 +4,9 @@ ghost use mathlib.Core.Bool.{true};
 ghost use Prim.Native.Nat.{_<_};
 ghost use Rattle.transport.specs.Nets.{accepts, after-post, hears, most-posts, room};
 ghost use Rattle.transport.specs.Stored.{stored};
+ghost use Rattle.transport.specs.Tables.{at-pair};
 ghost use Rattle.ring.specs.Meaning.{ring-meaning};
-ghost use Rattle.ring.specs.Rings.{at-pair, pushed, reaches};
+ghost use Rattle.ring.specs.Rings.{pushed, reaches};
 use crate::places::pair_index;
 use crate::places::place_after;
 use crate::ring::RingTransport;
@@ -21,7 +22,7 @@ impl<B: Body> RingTransport<B> {
         receiver < self.size && self.flags[receiver as usize] && receiver != sender
     }
 
-    // How many more frames a pair may get, of which only those count that a post would lengthen.
+    // How many more frames a pair may get; the limit, if the receiver does not hear the sender.
     fn room_left(&self, sender: u32, receiver: u32) -> usize
         requires { ⌜ sender < now self .size ⌝ }
         requires { ⌜ receiver < now self .size ⌝ }

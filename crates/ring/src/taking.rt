@@ -1,6 +1,6 @@
 // What waits for one pair.
 ghost use mathlib.Core.Path.{_≡_};
-ghost use Rattle.transport.specs.Nets.{oldest, after-take, after-close};
+ghost use Rattle.transport.specs.Nets.{oldest, after-take};
 ghost use Rattle.ring.specs.Meaning.{ring-meaning};
 use crate::places::pair_index;
 use crate::places::place_after;
@@ -10,6 +10,7 @@ use frame::Frame;
 use transport::stored_frame;
 
 impl<B: Body> RingTransport<B> {
+    // The oldest frame of a pair.
     pub(crate) fn oldest_of(&self, sender: u32, receiver: u32) -> Option<Frame<B>>
         ensures { λ r. ⌜ r ≡ oldest (ring-meaning (B·Body .remade) (now (self .entry))) sender receiver ⌝ }
     {
@@ -24,6 +25,7 @@ impl<B: Body> RingTransport<B> {
         Some(stored_frame::<B>(self.cells[at]))
     }
 
+    // Removes the oldest frame of a pair: its cell is free again, and the next frame is the oldest.
     pub(crate) fn drop_oldest(&mut self, sender: u32, receiver: u32)
         ensures { λ _. ⌜ ring-meaning (B·Body .remade) (now (self .exit)) ≡ after-take (ring-meaning (B·Body .remade) (now (self .entry))) sender receiver ⌝ }
     {
@@ -37,15 +39,5 @@ impl<B: Body> RingTransport<B> {
         }
         self.starts[pair] = place_after(self.limit, self.starts[pair], 1);
         self.helds[pair] = held - 1;
-    }
-
-    // A closed printer never opens again, so that what waits for it need not be cleared.
-    pub(crate) fn shut(&mut self, printer: u32)
-        ensures { λ _. ⌜ ring-meaning (B·Body .remade) (now (self .exit)) ≡ after-close (ring-meaning (B·Body .remade) (now (self .entry))) printer ⌝ }
-    {
-        if printer >= self.size {
-            return;
-        }
-        self.flags[printer as usize] = false;
     }
 }

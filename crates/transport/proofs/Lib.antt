@@ -3,3 +3,4 @@ pub mod NetLaws
 pub mod StoredLaws
 pub mod Takes
 pub mod SeriesLaws
+pub mod TableLaws

@@ -1,5 +1,5 @@
 -- One take after another.
-use mathlib.Core.Path.{_≡_, refl, sym, ap, _∙_}
+use mathlib.Core.Path.{_≡_, refl, sym, ap, ap₂, _∙_}
 use mathlib.Core.Bool.{Bool, true, false, _&&_, cond}
 use mathlib.Core.List.{List, [], _∷_}
 use Prim.Native.Nat.{ℕ, zero, suc, _+_, _<_, _≤_}
@@ -9,7 +9,7 @@ use lib.Dec.{eqb}
 use lib.ListN.{length, drop}
 use Rattle.std.specs.Options.{isSome}
 use Rattle.std.proofs.shelf.Lists.{drop-drop, drop-all}
-use Rattle.std.proofs.shelf.Tests.{and-from, eq-eqb}
+use Rattle.std.proofs.shelf.Tests.{and-from, and-parts, eq-eqb, eqb-true, cond-true}
 use Rattle.transport.specs.Nets.{Net, first, rest, has, queue, oldest, after-take, after-takes}
 use Rattle.transport.proofs.NetLaws.{net-path}
 
@@ -58,3 +58,18 @@ module _ {B : Type 0} (t : Net B) (s d : ℕ) where
       same true true e xs = refl
       same false c e xs = sym (drop-nil (cond false xs []) k refl)
       same true false e xs = absurd (let z : _≡_ {A = ℕ} 0 1 = cc in omega arith)
+
+  -- where no more are left, one more take changes nothing
+  pub takes-over : (k : ℕ) → length (queue t s d) ≤ k → after-takes t s d (k + 1) ≡ after-takes t s d k
+  takes-over k h = net-path _ _ refl refl (λ j. refl) (λ i j. go i j ((eqb i s && eqb j d) && (has t i && has t j)) refl)
+    where
+      go : (i j : ℕ) (b : Bool) → ((eqb i s && eqb j d) && (has t i && has t j)) ≡ b →
+          cond b (drop (k + 1) (t .waiting i j)) (t .waiting i j) ≡ cond b (drop k (t .waiting i j)) (t .waiting i j)
+      go i j false e = refl
+      go i j true e =
+          let p = and-parts (eqb i s && eqb j d) (has t i && has t j) e in
+          let q = and-parts (eqb i s) (eqb j d) (p .0) in
+          let w : queue t s d ≡ t .waiting i j =
+          ap₂ (queue t) (sym (eqb-true i s (q .0))) (sym (eqb-true j d (q .1))) ∙ cond-true (has t i && has t j) _ _ (p .1) in
+          let l : length (t .waiting i j) ≤ k = omega (arith, ap length w) in
+          drop-all (k + 1) (t .waiting i j) (omega arith) ∙ sym (drop-all k (t .waiting i j) l)

@@ -3,3 +3,4 @@ pub mod Nets
 pub mod Circles
 pub mod Stored
 pub mod Series
+pub mod Tables

@@ -4,5 +4,5 @@ use Rattle.body.specs.Faults.{unfit}
 use Rattle.body.proofs.Claims.{claim-of-self}
 use Rattle.body.proofs.claim.NumberClaim.new.Needs as need
 
-pub returns-then-count-le1000000 : need.returns-then-count-le1000000
-returns-then-count-le1000000 c = ap (λ o. okOr o unfit) (sym (claim-of-self _))
+pub returns-then-claim-fits : need.returns-then-claim-fits
+returns-then-claim-fits c = ap (λ o. okOr o unfit) (sym (claim-of-self _))

@@ -1,7 +1,7 @@
 use mathlib.Core.Path.{sym}
 use Rattle.std.proofs.shelf.Tests.{cond-false}
+use Rattle.transport.proofs.NetLaws.{post-refused}
 use Rattle.log.specs.Meaning.{log-meaning}
-use Rattle.log.proofs.Posts.{post-refused}
 use Rattle.log.proofs.carrying.LogTransportTransport.post.Needs as need
 
 pub returns-then-not-has-room : need.returns-then-not-has-room

@@ -6,9 +6,11 @@ use native.Mathlib.Omega.{arith}
 use lib.ListN.{length, getD}
 use Rattle.std.specs.Of.Vec.{vec-items}
 use Rattle.transport.specs.Stored.{stored}
-use Rattle.log.specs.Logs.{at-pair, carries, log-net}
+use Rattle.transport.proofs.TableLaws.{after-set}
+use Rattle.transport.specs.Tables.{at-pair}
+use Rattle.log.specs.Logs.{carries, log-net}
 use Rattle.log.specs.Meaning.{log-meaning}
-use Rattle.log.proofs.LogLaws.{after-set, waits-carries, waits-there}
+use Rattle.log.proofs.LogLaws.{waits-carries, waits-there}
 use Rattle.log.proofs.Takes.{take-nothing, log-taken}
 use Rattle.log.proofs.carrying.LogTransportTransport.take.Needs as need
 

@@ -6,8 +6,8 @@ use lib.ListN.{length, getD, set}
 use Rattle.std.specs.Of.Vec.{vec-items}
 use Rattle.transport.specs.Circles.{around}
 use Rattle.transport.specs.Stored.{or-idle, stored}
+use Rattle.transport.proofs.TableLaws.{after-set}
 use Rattle.log.specs.Logs.{cell, log-net}
-use Rattle.log.proofs.LogLaws.{after-set}
 use Rattle.log.proofs.Posts.{log-posted}
 use Rattle.log.proofs.Tables.{further-all}
 use Rattle.log.proofs.state.LogTransport.append.Needs as need

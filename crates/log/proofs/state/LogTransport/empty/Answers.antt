@@ -2,7 +2,8 @@ use mathlib.Core.Path.{refl}
 use native.Mathlib.Omega.{arith}
 use Rattle.std.specs.Of.Vec.{vec-items}
 use Rattle.transport.specs.Stored.{stored}
-use Rattle.log.proofs.Fresh.{zeros, made-fresh}
+use Rattle.transport.proofs.TableLaws.{zeros}
+use Rattle.log.proofs.Fresh.{made-fresh}
 use Rattle.log.proofs.state.LogTransport.empty.Needs as need
 
 pub ghost-result : need.ghost-result

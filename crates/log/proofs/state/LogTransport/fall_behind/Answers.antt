@@ -5,9 +5,11 @@ use Prim.Native.Nat.{_≤_, _+_, _*_}
 use native.Mathlib.Omega.{arith}
 use lib.ListN.{length}
 use Rattle.std.proofs.shelf.Lists.{length-set}
-use Rattle.log.specs.Logs.{at-pair, carries}
+use Rattle.transport.proofs.TableLaws.{after-set}
+use Rattle.transport.specs.Tables.{at-pair}
+use Rattle.log.specs.Logs.{carries}
 use Rattle.log.proofs.Behind.{carries-next, room-next}
-use Rattle.log.proofs.LogLaws.{after-set, carries-parts}
+use Rattle.log.proofs.LogLaws.{carries-parts}
 use Rattle.log.proofs.Tables.{further-step, further-skip}
 use Rattle.log.proofs.state.LogTransport.fall_behind.Needs as need
 use Rattle.log.proofs.state.LogTransport.fall_behind.Needs.{then-hears-from, else-hears-from}

@@ -8,7 +8,8 @@ use Rattle.std.specs.declared.result.Result.the-variants.{Ok}
 use Rattle.transport.specs.Nets.{fresh, making-answer}
 use Rattle.transport.specs.Stored.{stored}
 use Rattle.transport.specs.declared.TransportFault.{TransportFault}
-use Rattle.log.proofs.Fresh.{zeros, logs-fit, made-fresh}
+use Rattle.transport.proofs.TableLaws.{zeros}
+use Rattle.log.proofs.Fresh.{logs-fit, made-fresh}
 use Rattle.log.proofs.state.LogTransport.make.Needs as need
 
 pub ghost-self : need.ghost-self

@@ -5,8 +5,9 @@ use native.Mathlib.Omega.{arith}
 use lib.Dec.{ltb}
 use Rattle.std.proofs.shelf.Tests.{cond-true, cond-false, lt-ltb}
 use Rattle.transport.specs.Nets.{accepts}
+use Rattle.transport.proofs.NetLaws.{post-refused}
 use Rattle.ring.specs.Meaning.{ring-meaning}
-use Rattle.ring.proofs.Posts.{accepts-spare, post-refused}
+use Rattle.ring.proofs.Posts.{accepts-spare}
 use Rattle.ring.proofs.carrying.RingTransportTransport.post.Needs as need
 
 pub returns-then-posts-left-eq0 : need.returns-then-posts-left-eq0

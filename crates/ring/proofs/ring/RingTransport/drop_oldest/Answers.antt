@@ -6,8 +6,9 @@ use lib.ListN.{length, getD}
 use Rattle.std.specs.Of.Vec.{vec-items}
 use Rattle.transport.specs.Circles.{around}
 use Rattle.transport.proofs.Circles.{around-below}
+use Rattle.transport.proofs.TableLaws.{after-set}
 use Rattle.ring.specs.Meaning.{ring-meaning}
-use Rattle.ring.proofs.Steps.{take-nothing, none-reach, none-held, ring-taken, after-set}
+use Rattle.ring.proofs.Steps.{take-nothing, none-reach, none-held, ring-taken}
 use Rattle.ring.proofs.ring.RingTransport.drop_oldest.Needs as need
 
 pub returns-then-not-reaches : need.returns-then-not-reaches

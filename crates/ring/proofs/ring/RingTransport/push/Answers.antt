@@ -6,8 +6,9 @@ use lib.ListN.{length, getD}
 use Rattle.std.specs.Of.Vec.{vec-items}
 use Rattle.transport.specs.Circles.{around}
 use Rattle.transport.proofs.Circles.{around-below}
+use Rattle.transport.proofs.TableLaws.{after-set}
 use Rattle.ring.specs.Rings.{cell}
-use Rattle.ring.proofs.Steps.{cell-below, reach-parts, ring-pushed, after-set}
+use Rattle.ring.proofs.Steps.{cell-below, reach-parts, ring-pushed}
 use Rattle.ring.proofs.ring.RingTransport.push.Needs as need
 
 pub place-after-place-requires : need.place-after-place-requires

@@ -4,10 +4,11 @@ use native.Mathlib.Omega.{arith}
 use Rattle.std.specs.Of.Vec.{vec-items}
 use Rattle.transport.specs.Nets.{accepts, after-post, hears}
 use Rattle.transport.specs.Stored.{stored, or-idle}
+use Rattle.transport.proofs.NetLaws.{accepts-below}
 use Rattle.ring.specs.Meaning.{ring-meaning}
 use Rattle.ring.specs.Rings.{pushed}
 use Rattle.ring.proofs.Steps.{waits-length}
-use Rattle.ring.proofs.Posts.{part-posted, part-none, part-all, part-skip, part-step, part-room, accepts-below, hears-reaches}
+use Rattle.ring.proofs.Posts.{part-posted, part-none, part-all, part-skip, part-step, part-room, hears-reaches}
 use Rattle.ring.proofs.ring.RingTransport.push_all.Needs as need
 use Rattle.ring.proofs.ring.RingTransport.push_all.Needs.{then-hears, else-hears}
 

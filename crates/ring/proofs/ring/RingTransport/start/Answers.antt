@@ -1,7 +1,8 @@
 use mathlib.Core.Path.{refl}
 use native.Mathlib.Omega.{arith}
 use Rattle.std.specs.Of.Vec.{vec-items}
-use Rattle.ring.proofs.Makes.{zeros, made-fresh}
+use Rattle.transport.proofs.TableLaws.{zeros}
+use Rattle.ring.proofs.Makes.{made-fresh}
 use Rattle.ring.proofs.ring.RingTransport.start.Needs as need
 
 pub ghost-self : need.ghost-self

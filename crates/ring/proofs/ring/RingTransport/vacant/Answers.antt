@@ -1,5 +1,5 @@
 use native.Mathlib.Omega.{arith}
-use Rattle.ring.proofs.Makes.{zeros}
+use Rattle.transport.proofs.TableLaws.{zeros}
 use Rattle.ring.proofs.ring.RingTransport.vacant.Needs as need
 
 pub ghost-result : need.ghost-result
