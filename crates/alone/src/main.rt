@@ -1,4 +1,6 @@
 // One printer working by itself: it sends, issues a ticket, and delivers.
+#![tactic(auto)]
+
 use anyhow::anyhow;
 use printer::{Printer, PrinterFault, Record, RecordKind};
 use ring::RingTransport;

@@ -1,4 +1,6 @@
 // What a printer holds until it can be delivered: messages and tickets.
+#![tactic(auto)]
+
 mod backlog;
 mod holding;
 mod rows;

@@ -1,4 +1,6 @@
 // What a message may carry: kinds of bodies, each a fixed count of words, and the faults of the wire.
+#![tactic(auto)]
+
 mod change;
 mod change_body;
 mod claim;

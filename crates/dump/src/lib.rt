@@ -1,5 +1,7 @@
 // Lines of a dump of wire blocks. A line is a body kind, `change` or `claim`, and then nothing, or at least one space and
 // the block in hex, in words of eight digits that may stand apart. Blanks at the two ends of the line do not count.
+#![tactic(auto)]
+
 mod faults;
 mod hex;
 mod line;

@@ -1,4 +1,6 @@
 // Frames: what printers send each other. Their parts carry their ranges, and a frame has a plain row.
+#![tactic(auto)]
+
 mod content;
 mod counters;
 mod frame;

@@ -1,4 +1,6 @@
 // Decodes dumps of frames from standard input: for each line in, one line out.
+#![tactic(auto)]
+
 mod answer;
 mod text;
 

@@ -1,4 +1,6 @@
 // What a printer does by itself, over any transport.
+#![tactic(auto)]
+
 mod changing;
 mod making;
 mod opening;

@@ -1,3 +1,5 @@
 // Worked examples as tests: of printers, step by step.
+#![tactic(auto)]
+
 #[cfg(test)]
 mod printers;

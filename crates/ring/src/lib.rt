@@ -1,4 +1,6 @@
 // A transport of rings: the frames of each ordered pair of printers lie in a circle of cells of its own.
+#![tactic(auto)]
+
 mod carrying;
 mod closing;
 mod making;

@@ -1,4 +1,6 @@
 // Who of a hall is active, passive or removed, and how records change it.
+#![tactic(auto)]
+
 mod asking;
 mod changing;
 mod nearest;

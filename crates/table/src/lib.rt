@@ -1,4 +1,6 @@
 // One printer's table: what it keeps, what is due of it, and how it delivers.
+#![tactic(auto)]
+
 mod delivering;
 mod dues;
 mod duty;

@@ -1,4 +1,6 @@
 // A walk through what the library does, step by step, as a technician at a packing line would see it.
+#![tactic(auto)]
+
 mod transport_stop;
 mod wire_stop;
 

@@ -1,4 +1,6 @@
 // What a transport between printers means, and code that knows a transport by that alone.
+#![tactic(auto)]
+
 mod draining;
 mod faults;
 mod meaning;

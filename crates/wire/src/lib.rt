@@ -1,4 +1,6 @@
 // Frames in bytes: writing one, and reading any bytes. All that a frame is made of can be named from here too.
+#![tactic(auto)]
+
 mod layout;
 mod read;
 mod rebuild;

@@ -11,6 +11,6 @@ loop-rest-preserved c =
     subst Kept (sym (take_rest c.loop-rest.rest.now 2)) (
       (λ k. rw get_or-drop (c.loop-rest.invariant.0 (2 + k))),
       (pair_more (vec_items c.loop-rest.bytes) (vec_items c.push.new.self) c.loop-rest.rest.now
-          c.byte-of.result (search rules) c.byte-of.ensures c.in-ok-push.ensures.items
+          c.byte_of.result (search rules) c.byte_of.ensures c.in_ok-push.ensures.items
           ∙ c.loop-rest.invariant.1),
     )

@@ -16,8 +16,8 @@ returns-in-err-take-char c =
 pub loop-c-preserved : goal.loop-c-preserved
 loop-c-preserved c =
     sym
-    (step_more (vec_items c.loop-c.digits) (vec_items c.take-char.new.digits) c.args.text.now
-    c.loop-c.c-index (omega arith) c.in-ok-take-char.ensures)
+    (step_more (vec_items c.loop-c.digits) (vec_items c.take_char.new.digits) c.args.text.now
+    c.loop-c.c-index (omega arith) c.in_ok-take_char.ensures)
     ∙ c.loop-c.invariant
 
 pub returns : goal.returns

@@ -7,8 +7,8 @@ use Rattle.dump.proofs.line.block_after.Goals as goal
 
 pub returns-in-32 : goal.returns-in-32
 returns-in-32 c =
-    let Read : Option (List ℕ) → Type 0 = λ o. Reads o vec_items c.read-hex.result in
+    let Read : Option (List ℕ) → Type 0 = λ o. Reads o vec_items c.read_hex.result in
     subst Read
     (ap hex_block (take_rest c.args.rest.now 1)
     ∙ sym (block_after_space c.args.rest.now (search rules) (search rules)))
-    c.read-hex.ensures
+    c.read_hex.ensures
