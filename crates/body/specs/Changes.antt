@@ -1,5 +1,5 @@
 -- Template changes: made of plain numbers, and seen as words and as rows.
-use Rattle.std.specs.Prelude.{◌≡◌, ℕ, Bool, true, false, not, ◌||◌, List, [], ◌∷◌, Some, None, Option, ◌==◌, nat_le}
+use Rattle.std.specs.Prelude.{ℕ, Bool, true, false, not, ◌||◌, List, [], ◌∷◌, Some, None, Option, ◌==◌, nat_le}
 use Rattle.body.specs.Checked.{checked}
 use Rattle.body.specs.Ranges.{change_number, change_named, change_ok}
 use Rattle.body.specs.declared.change.ChangeKind.{ChangeKind}

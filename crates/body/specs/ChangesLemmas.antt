@@ -1,10 +1,10 @@
 -- A change is what its words and its row make.
-use Rattle.std.specs.Prelude.{◌≡◌, ℕ, Bool, true, false, eqb, ◌⊎◌, List, [], ◌∷◌, length, Some, None, Option, refl}
+use Rattle.std.specs.Prelude.{◌≡◌, ℕ, true, List, [], ◌∷◌, length, Some, None, Option, refl}
 use Rattle.std.proofs.Common.{sym, ap, ◌∙◌, inl, inr, arith}
 use Rattle.std.proofs.lemmas.Bool.{cases_eq}
 use Rattle.std.proofs.lemmas.Bool.Decides.{nat_tests}
-use Rattle.body.specs.Words.{in_order, is_word}
-use Rattle.body.specs.Ranges.{change_number, change_named, change_ok, uses}
+use Rattle.body.specs.Words.{in_order}
+use Rattle.body.specs.Ranges.{change_number, change_named, change_ok}
 use Rattle.body.specs.Changes.{change_of, change_with, change_words, change_allows, change_row, change_remade}
 use Rattle.body.specs.declared.change.ChangeKind.{ChangeKind}
 use Rattle.body.specs.declared.change.ChangeKind.TheVariants.{Set, ClearField, DropTemplate}

@@ -1,5 +1,5 @@
 -- What a checked choice gives where the outcome of its test is known.
-use Rattle.std.specs.Prelude.{◌≡◌, Bool, true, false, Some, None, Option, refl}
+use Rattle.std.specs.Prelude.{◌≡◌, Bool, true, false, Some, None, refl}
 use Rattle.std.proofs.Common.{ap}
 use Rattle.std.proofs.Math.Bool.{Bool-set}
 use Rattle.std.proofs.lemmas.Bool.{both_ways}

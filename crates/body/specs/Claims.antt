@@ -1,5 +1,5 @@
 -- Number claims: made of series and count, and seen as words and as rows.
-use Rattle.std.specs.Prelude.{◌≡◌, ℕ, Bool, true, false, ◌&&◌, List, [], ◌∷◌, Some, None, Option, nat_le, nat_lt}
+use Rattle.std.specs.Prelude.{ℕ, Bool, false, ◌&&◌, List, [], ◌∷◌, Some, None, Option, nat_le, nat_lt}
 use Rattle.body.specs.Checked.{checked}
 use Rattle.body.specs.Ranges.{claim_ok}
 use Rattle.body.specs.declared.claim.NumberClaim.{NumberClaim}

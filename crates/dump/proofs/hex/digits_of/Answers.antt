@@ -4,14 +4,14 @@ use Rattle.std.proofs.lemmas.Result.{err_from_is_err_and}
 use Rattle.dump.proofs.Digits.{step_more, step_bad}
 use Rattle.dump.proofs.hex.digits_of.Goals as goal
 
-pub returns-in-err-take-char : goal.returns-in-err-take-char
-returns-in-err-take-char c =
-    let p = err_from_is_err_and c.from-residual.result c.from-residual.ensures.1 in
+pub returns-in_err-take_char : goal.returns-in_err-take_char
+returns-in_err-take_char c =
+    let p = err_from_is_err_and c.from_residual.result c.from_residual.ensures.1 in
     rw p.1
     (λ e.
     sym c.loop-c.invariant
     ∙ step_bad (vec_items c.loop-c.digits) c.args.text.now c.loop-c.c-index (omega arith)
-    (c.in-err-take-char.ensures (sym p.2 ∙ e)))
+    (c.in_err-take_char.ensures (sym p.2 ∙ e)))
 
 pub loop-c-preserved : goal.loop-c-preserved
 loop-c-preserved c =

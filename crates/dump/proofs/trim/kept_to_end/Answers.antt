@@ -10,9 +10,9 @@ loop-end-init c = search (rules, take_all)
 pub loop-end-preserved : goal.loop-end-preserved
 loop-end-preserved c = grind (arith, suffix_len-take_yes)
 
-pub returns-else-is-blank : goal.returns-else-is-blank
-returns-else-is-blank c =
+pub returns-else-is_blank : goal.returns-else-is_blank
+returns-else-is_blank c =
     let none_left =
     suffix_len-take_no blank c.args.text.now c.loop-end.end 0 c.loop-end-test.true c.loop-end.invariant.0
-    (sym c.if-is-blank.ensures) in
+    (sym c.if-is_blank.ensures) in
     record { value = omega arith; bound = omega arith }

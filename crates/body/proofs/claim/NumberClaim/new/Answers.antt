@@ -4,5 +4,5 @@ use Rattle.body.specs.Faults.{unfit}
 use Rattle.body.specs.ClaimsLemmas.{claim_of_self}
 use Rattle.body.proofs.claim.NumberClaim.new.Goals as goal
 
-pub returns-then-claim-fits : goal.returns-then-claim-fits
-returns-then-claim-fits c = ap (λ o. ok_or o unfit) (sym (claim_of_self _))
+pub returns-then-claim_fits : goal.returns-then-claim_fits
+returns-then-claim_fits c = ap (λ o. ok_or o unfit) (sym (claim_of_self _))
