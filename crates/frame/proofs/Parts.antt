@@ -1,10 +1,8 @@
 -- A frame and its parts are what their numbers make.
-use Rattle.std.proofs.Common.{◌≡◌, ℕ, Some, None, Option, refl, ap, ◌∙◌}
-use Rattle.body.specs.CheckedLemmas.{checked_true, checked_some}
+use Rattle.std.proofs.Common.{◌≡◌, Some, None, ap, ◌∙◌}
+use Rattle.body.specs.CheckedLemmas.{checked_true}
 use Rattle.frame.specs.Ranges.{is_printer, payload_ok}
 use Rattle.frame.specs.Frames.{printer_of, payload_of, frame_of, framed}
-use Rattle.frame.specs.declared.counters.TicketNumber.{TicketNumber}
-use Rattle.frame.specs.declared.content.Content.{Content}
 use Rattle.frame.specs.declared.printer_number.PrinterNumber.{PrinterNumber}
 use Rattle.frame.specs.declared.payload.Payload.{Payload}
 use Rattle.frame.specs.declared.frame.Frame.{Frame}

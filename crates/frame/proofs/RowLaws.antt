@@ -4,8 +4,6 @@ use Rattle.body.specs.CheckedLemmas.{checked_some}
 use Rattle.frame.specs.Ranges.{is_printer, payload_ok}
 use Rattle.frame.specs.Frames.{printer_of, payload_of, frame_of, framed}
 use Rattle.frame.specs.Rows.{content_row, content_remade, with_body, frame_row, frame_remade, frame_with}
-use Rattle.frame.specs.declared.counters.MessageNumber.{MessageNumber}
-use Rattle.frame.specs.declared.counters.RoleNumber.{RoleNumber}
 use Rattle.frame.specs.declared.counters.TicketNumber.{TicketNumber}
 use Rattle.frame.specs.declared.content.Content.{Content}
 use Rattle.frame.specs.declared.content.Content.TheVariants.{Data, Up, Down, Ticket, Reassign, Clock}

@@ -1,5 +1,5 @@
 -- Frames made of their parts.
-use Rattle.std.specs.Prelude.{◌≡◌, ℕ, Bool, true, Some, None, Option}
+use Rattle.std.specs.Prelude.{ℕ, Some, None, Option}
 use Rattle.body.specs.Checked.{checked}
 use Rattle.frame.specs.Ranges.{is_printer, payload_ok}
 use Rattle.frame.specs.declared.counters.TicketNumber.{TicketNumber}

@@ -8,7 +8,7 @@ use crate::frame_row::FrameRow;
 use body::Body;
 
 fn content_to_row<B: Body>(content: Content<B>) -> Content<B::Row>
-    ensures { result ≡ content_row row content }
+    ensures { result ≡ content_row B.Body.row content }
 {
     match content {
         Content::Data {
@@ -57,7 +57,7 @@ fn content_to_row<B: Body>(content: Content<B>) -> Content<B::Row>
 }
 
 fn content_from_row<B: Body>(content: Content<B::Row>) -> Option<Content<B>>
-    ensures { result ≡ content_remade remade content }
+    ensures { result ≡ content_remade B.Body.remade content }
 {
     match content {
         Content::Data {
@@ -109,7 +109,7 @@ fn content_from_row<B: Body>(content: Content<B::Row>) -> Option<Content<B>>
 }
 
 fn row_of<B: Body>(frame: Frame<B>) -> FrameRow<B::Row>
-    ensures { result ≡ frame_row row frame }
+    ensures { result ≡ frame_row B.Body.row frame }
 {
     FrameRow {
         sender: frame.sender.value,
@@ -119,7 +119,7 @@ fn row_of<B: Body>(frame: Frame<B>) -> FrameRow<B::Row>
 }
 
 fn frame_of<B: Body>(given: FrameRow<B::Row>) -> Option<Frame<B>>
-    ensures { result ≡ frame_remade remade given }
+    ensures { result ≡ frame_remade B.Body.remade given }
 {
     match content_from_row::<B>(given.content) {
         Some(content) => Frame::new(given.sender, given.clock, content).ok(),

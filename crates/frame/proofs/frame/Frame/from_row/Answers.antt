@@ -4,6 +4,6 @@ use Rattle.frame.proofs.frame.Frame.from_row.Goals as goal
 pub returns : goal.returns
 returns g c =
     record {
-      value = c.frame-of.ensures;
-      plain = frame_plain_cases g.B.Body.row g.B.Body.remade g.met.B.Body.plain c.args.given c.frame-of.result c.frame-of.ensures;
+      value = c.frame_of.ensures;
+      plain = frame_plain_cases g.B.Body.row g.B.Body.remade g.met.B.Body.plain c.args.given c.frame_of.result c.frame_of.ensures;
     }

@@ -4,5 +4,5 @@ use Rattle.body.specs.Faults.{unfit}
 use Rattle.frame.proofs.Parts.{printer_of_self}
 use Rattle.frame.proofs.printer_number.PrinterNumber.new.Goals as goal
 
-pub returns-then-is-printer : goal.returns-then-is-printer
-returns-then-is-printer c = ap (λ o. ok_or o unfit) (sym (printer_of_self _))
+pub returns-then-is_printer : goal.returns-then-is_printer
+returns-then-is_printer c = ap (λ o. ok_or o unfit) (sym (printer_of_self _))
