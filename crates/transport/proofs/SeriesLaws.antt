@@ -1,11 +1,11 @@
 -- What `most_posts` tells: as many posts can be made in a row.
-use Rattle.std.proofs.Common.{◌≡◌, ℕ, zero, suc, ◌+◌, ◌-◌, ◌<◌, ◌≤◌, min, Bool, true, false, cond, not, ◌&&◌, eqb, ltb, leb, List, [], ◌∷◌, ◌++◌, length, sym, refl, ap, ◌∙◌, subst, inl, inr, arith}
+use Rattle.std.proofs.Common.{◌≡◌, ℕ, zero, suc, ◌-◌, ◌<◌, ◌≤◌, Bool, true, false, cond, not, ◌&&◌, eqb, leb, [], ◌∷◌, ◌++◌, length, refl, ap, ◌∙◌, inl, inr, arith}
 use Rattle.std.proofs.lemmas.List.{length_push}
-use Rattle.std.proofs.lemmas.Bool.{and_parts, and_from, eqb-true, lt-ltb, ltb-true, cond_both, cond-true, cond-false, cases_eq}
+use Rattle.std.proofs.lemmas.Bool.{and_parts, and_from, eqb-true, cond-true, cases_eq}
 use Rattle.std.proofs.lemmas.Bool.Decides.{nat_tests}
 use Rattle.frame.specs.declared.Frame.{Frame}
-use Rattle.transport.specs.Nets.{Net, all_below, least_below, has, hears, is_full, accepts, after_post, room, most_posts}
-use Rattle.transport.specs.Series.{all_sent_by, all_accepted, AcceptsSeries}
+use Rattle.transport.specs.Nets.{Net, all_below, least_below, has, hears, accepts, after_post, room, most_posts}
+use Rattle.transport.specs.Series.{all_sent_by, AcceptsSeries}
 
 all_below_from : (n : ℕ) (p : ℕ → Bool) → ((j : ℕ) → j < n → p j ≡ true) → all_below n p ≡ true
 all_below_from zero p h = refl

@@ -1,5 +1,5 @@
 -- A frame that was stored is found again.
-use Rattle.std.proofs.Common.{◌≡◌, ℕ, Some, None, Option, ap}
+use Rattle.std.proofs.Common.{◌≡◌, ℕ, Some, Option, ap}
 use Rattle.frame.specs.Frames.{frame_of}
 use Rattle.frame.specs.Rows.{frame_row}
 use Rattle.frame.specs.declared.Content.{Content}

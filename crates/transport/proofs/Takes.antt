@@ -1,8 +1,8 @@
 -- One take after another.
-use Rattle.std.proofs.Common.{◌≡◌, ℕ, zero, suc, ◌+◌, ◌<◌, ◌≤◌, Bool, true, false, cond, ◌&&◌, eqb, List, [], ◌∷◌, length, drop, is_some, sym, refl, ap, ◌∙◌, ap₂, add-one, arith}
+use Rattle.std.proofs.Common.{◌≡◌, ℕ, zero, suc, ◌+◌, ◌<◌, ◌≤◌, Bool, true, false, cond, ◌&&◌, eqb, List, [], ◌∷◌, length, drop, is_some, sym, refl, ap, ◌∙◌, ap₂, arith}
 use Rattle.std.proofs.lemmas.List.{drop-drop, drop_all}
 use Rattle.std.proofs.lemmas.Bool.{and_from, and_parts, eq-eqb, eqb-true, cond-true}
-use Rattle.transport.specs.Nets.{Net, first, rest, has, queue, oldest, after_take, after_takes}
+use Rattle.transport.specs.Nets.{Net, first, rest, has, queue, after_take, after_takes}
 use Rattle.transport.proofs.NetLaws.{net_path}
 
 rest_drop : {A : Type 0} (k : ℕ) (xs : List A) → rest (drop k xs) ≡ drop (k + 1) xs

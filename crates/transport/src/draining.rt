@@ -6,8 +6,8 @@ use crate::meaning::Transport;
 
 // Takes the oldest frame of a pair, and answers whether there was one.
 fn take_one<T: Transport>(t: &mut T, sender: u32, receiver: u32) -> bool
-    ensures answer { result ≡ is_some (oldest (meaning t.old) sender receiver) }
-    ensures after { meaning t.new ≡ after_take (meaning t.old) sender receiver }
+    ensures answer { result ≡ is_some (oldest (T.meaning t.old) sender receiver) }
+    ensures after { T.meaning t.new ≡ after_take (T.meaning t.old) sender receiver }
 {
     let found = t.look(sender, receiver).is_some();
     t.take(sender, receiver);
@@ -16,8 +16,8 @@ fn take_one<T: Transport>(t: &mut T, sender: u32, receiver: u32) -> bool
 
 // Takes the frames of a pair, at most `most` of them, and answers how many it took.
 pub fn drain<T: Transport>(t: &mut T, sender: u32, receiver: u32, most: usize) -> usize
-    ensures answer { result ≡ min most (length (queue (meaning t.old) sender receiver)) }
-    ensures after { meaning t.new ≡ after_takes (meaning t.old) sender receiver result }
+    ensures answer { result ≡ min most (length (queue (T.meaning t.old) sender receiver)) }
+    ensures after { T.meaning t.new ≡ after_takes (T.meaning t.old) sender receiver result }
 {
     let mut count = 0;
     while count < most && take_one(t, sender, receiver) {

@@ -6,8 +6,8 @@ ghost use Rattle.transport.specs.Series.{AcceptsSeries};
 use crate::meaning::Transport;
 
 fn within_spare<T: Transport>(t: &mut T, sender: u32, count: usize) -> bool
-    ensures bound { result ≡ true → count ≤ most_posts (meaning t.old) sender }
-    ensures same { meaning t.new ≡ meaning t.old }
+    ensures bound { result ≡ true → count ≤ most_posts (T.meaning t.old) sender }
+    ensures same { T.meaning t.new ≡ T.meaning t.old }
 {
     count <= t.spare(sender)
 }
@@ -15,8 +15,8 @@ fn within_spare<T: Transport>(t: &mut T, sender: u32, count: usize) -> bool
 // Whether so many posts by the sender are sure to be accepted, one after the other. A transport that knows less than it
 // could may answer no where they would be.
 pub fn sure_of_posts<T: Transport>(t: &mut T, sender: u32, count: usize) -> bool
-    ensures sure { result ≡ true → AcceptsSeries (meaning t.old) sender count }
-    ensures same { meaning t.new ≡ meaning t.old }
+    ensures sure { result ≡ true → AcceptsSeries (T.meaning t.old) sender count }
+    ensures same { T.meaning t.new ≡ T.meaning t.old }
 {
     within_spare(t, sender, count)
 }

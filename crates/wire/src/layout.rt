@@ -7,7 +7,7 @@ use frame::{Content, Frame, FrameKind};
 
 // How many words follow the kind.
 pub(crate) fn words_after<B: Body>(kind: FrameKind) -> usize
-    ensures value { result ≡ kind_count count kind }
+    ensures value { result ≡ kind_count B.count kind }
 {
     match kind {
         FrameKind::Data => 5 + B::word_count(),
@@ -20,7 +20,7 @@ pub(crate) fn words_after<B: Body>(kind: FrameKind) -> usize
 
 // Whether a word of a message is in range after those before it, its number first.
 fn message_in_range<B: Body>(before: &[u32], word: u32) -> bool
-    ensures { result ≡ assigned_allows allows before.now word }
+    ensures { result ≡ assigned_allows B.allows before.now word }
 {
     match before {
         [] => 1 <= word,
@@ -44,7 +44,7 @@ fn switch_in_range(before: &[u32], word: u32) -> bool
 
 // Whether a word behind the clock is in range after those before it there.
 fn content_in_range<B: Body>(kind: FrameKind, before: &[u32], word: u32) -> bool
-    ensures { result ≡ content_allows allows kind before.now word }
+    ensures { result ≡ content_allows B.allows kind before.now word }
 {
     match (kind, before) {
         (FrameKind::Data, _) => message_in_range::<B>(before, word),
@@ -61,7 +61,7 @@ fn content_in_range<B: Body>(kind: FrameKind, before: &[u32], word: u32) -> bool
 
 // Whether a word is in range after those between it and the kind.
 pub(crate) fn in_range<B: Body>(kind: FrameKind, before: &[u32], word: u32) -> bool
-    ensures { result ≡ kind_allows allows kind before.now word }
+    ensures { result ≡ kind_allows B.allows kind before.now word }
 {
     match before {
         [] => word <= 7,

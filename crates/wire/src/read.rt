@@ -26,7 +26,7 @@ fn word_at(bytes: &[u8], at: usize) -> Option<u32>
 // The word behind the kind and the words before it, if it is there and in range.
 fn next_word<B: Body>(kind: FrameKind, before: &[u32], bytes: &[u8]) -> Result<u32, WireFault>
     requires { length before.now ≤ 13 }
-    ensures { result ≡ next_word (kind_allows allows kind) before.now bytes.now }
+    ensures { result ≡ next_word (kind_allows B.allows kind) before.now bytes.now }
 {
     let byte = 4 + 4 * before.len();
     match word_at(bytes, byte) {
@@ -51,7 +51,7 @@ fn fill_words<B: Body>(
 ) -> Result<(), WireFault>
     requires room { due ≤ length words.old }
     requires few { due ≤ 13 }
-    ensures { Fills (kind_allows allows kind) due bytes.now words.new result }
+    ensures { Fills (kind_allows B.allows kind) due bytes.now words.new result }
 {
     for n in 0..due {
         words[n] = next_word::<B>(kind, &words[0..n], bytes)?;
@@ -67,7 +67,7 @@ fn fill_words<B: Body>(
 }
 
 fn read_rest<B: Body>(kind: FrameKind, bytes: &[u8]) -> Result<Frame<B>, WireFault>
-    ensures { RestReads words allows count kind bytes.now result }
+    ensures { RestReads B.words B.allows B.count kind bytes.now result }
 {
     let due = words_after::<B>(kind);
     let mut words = [0; MOST_WORDS];
@@ -79,7 +79,7 @@ fn read_rest<B: Body>(kind: FrameKind, bytes: &[u8]) -> Result<Frame<B>, WireFau
 }
 
 fn read_any<B: Body>(bytes: &[u8]) -> Result<Frame<B>, WireFault>
-    ensures { Reads words allows count bytes.now result }
+    ensures { Reads B.words B.allows B.count bytes.now result }
 {
     let Some(word) = word_at(bytes, 0) else {
         return Err(WireFault {
@@ -98,8 +98,8 @@ fn read_any<B: Body>(bytes: &[u8]) -> Result<Frame<B>, WireFault>
 
 // The frame that the bytes are, or the first fault among them. Bytes that read as a frame are what is written of it.
 pub fn read_frame<B: Body>(bytes: &[u8]) -> Result<Frame<B>, WireFault>
-    ensures reads { Reads words allows count bytes.now result }
-    ensures exact { IfOk result (λ f. bytes.now ≡ frame_bytes words f) }
+    ensures reads { Reads B.words B.allows B.count bytes.now result }
+    ensures exact { IfOk result (λ f. bytes.now ≡ frame_bytes B.words f) }
 {
     read_any(bytes)
 }

@@ -6,7 +6,7 @@ use body::Body;
 use frame::{Content, Frame, FrameKind, MessageNumber, RoleNumber, TicketNumber};
 
 fn content_from_words<B: Body>(kind: FrameKind, words: &[u32]) -> Option<Content<B>>
-    ensures { result ≡ content_rebuilt rebuilt kind words.now }
+    ensures { result ≡ content_rebuilt B.rebuilt kind words.now }
 {
     match (kind, words) {
         (FrameKind::Data, [number, sequencer, role, body @ ..]) => match B::from_words(body) {
@@ -44,7 +44,7 @@ fn content_from_words<B: Body>(kind: FrameKind, words: &[u32]) -> Option<Content
 }
 
 pub(crate) fn frame_from_words<B: Body>(kind: FrameKind, words: &[u32]) -> Option<Frame<B>>
-    ensures { result ≡ frame_rebuilt rebuilt kind words.now }
+    ensures { result ≡ frame_rebuilt B.rebuilt kind words.now }
 {
     match words {
         [sender, clock, content @ ..] => match content_from_words::<B>(kind, content) {

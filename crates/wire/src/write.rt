@@ -13,7 +13,7 @@ use frame::{Content, Frame};
 pub const MAX_FRAME_BYTES: usize = 56;
 
 fn content_word<B: Body>(content: Content<B>, i: usize) -> u32
-    ensures { result ≡ slice_index (content_words words content) i }
+    ensures { result ≡ slice_index (content_words B.words content) i }
 {
     match (content, i) {
         (Content::Data { number, .. }, 0) => number.0,
@@ -34,7 +34,7 @@ fn content_word<B: Body>(content: Content<B>, i: usize) -> u32
 }
 
 fn frame_word<B: Body>(frame: Frame<B>, i: usize) -> u32
-    ensures { result ≡ slice_index (frame_words words frame) i }
+    ensures { result ≡ slice_index (frame_words B.words frame) i }
 {
     match i {
         0 => frame.kind().number(),
@@ -52,7 +52,7 @@ fn put_word(out: &mut [u8], at: usize, word: u32)
 }
 
 fn frame_words<B: Body>(frame: Frame<B>) -> usize
-    ensures value { result ≡ length (frame_words words frame) }
+    ensures value { result ≡ length (frame_words B.words frame) }
     ensures bound { result ≤ 14 }
 {
     1 + words_after::<B>(frame.kind())
@@ -60,7 +60,7 @@ fn frame_words<B: Body>(frame: Frame<B>) -> usize
 
 // How many bytes the frame takes when it is written, at most `MAX_FRAME_BYTES`.
 pub fn frame_length<B: Body>(frame: Frame<B>) -> usize
-    ensures value { result ≡ length (frame_bytes words frame) }
+    ensures value { result ≡ length (frame_bytes B.words frame) }
     ensures bound { result ≤ 56 }
 {
     4 * frame_words(frame)
@@ -68,8 +68,8 @@ pub fn frame_length<B: Body>(frame: Frame<B>) -> usize
 
 // All words of the frame, to the front of a buffer that holds them.
 fn put_words<B: Body>(frame: Frame<B>, out: &mut [u8])
-    requires { length (frame_bytes words frame) ≤ length out.old }
-    ensures { out.new ≡ frame_bytes words frame ++ drop (length (frame_bytes words frame)) out.old }
+    requires { length (frame_bytes B.words frame) ≤ length out.old }
+    ensures { out.new ≡ frame_bytes B.words frame ++ drop (length (frame_bytes B.words frame)) out.old }
 {
     let count = frame_words(frame);
     for i in 0..count {
@@ -78,8 +78,8 @@ fn put_words<B: Body>(frame: Frame<B>, out: &mut [u8])
 }
 
 fn write_any<B: Body>(frame: Frame<B>, out: &mut [u8]) -> Result<usize, WireFault>
-    ensures answer { result ≡ write_answer out.old (frame_bytes words frame) }
-    ensures after { out.new ≡ write_after out.old (frame_bytes words frame) }
+    ensures answer { result ≡ write_answer out.old (frame_bytes B.words frame) }
+    ensures after { out.new ≡ write_after out.old (frame_bytes B.words frame) }
 {
     let length = frame_length(frame);
     if out.len() < length {
@@ -95,9 +95,9 @@ fn write_any<B: Body>(frame: Frame<B>, out: &mut [u8]) -> Result<usize, WireFaul
 // Writes the frame to the front of a buffer and answers how many bytes it takes there. What it writes reads back as the
 // frame.
 pub fn write_frame<B: Body>(frame: Frame<B>, out: &mut [u8]) -> Result<usize, WireFault>
-    ensures answer { result ≡ write_answer out.old (frame_bytes words frame) }
-    ensures after { out.new ≡ write_after out.old (frame_bytes words frame) }
-    ensures back { IfOk result (λ n. ReadsBack words allows count (take n out.new) frame) }
+    ensures answer { result ≡ write_answer out.old (frame_bytes B.words frame) }
+    ensures after { out.new ≡ write_after out.old (frame_bytes B.words frame) }
+    ensures back { IfOk result (λ n. ReadsBack B.words B.allows B.count (take n out.new) frame) }
 {
     write_any(frame, out)
 }

@@ -5,6 +5,6 @@ pub returns : goal.returns
 returns g c =
     record {
       sure = λ e.
-          spare_holds (g.T.Transport.meaning c.args.t.now) c.args.sender c.args.count (c.within-spare.ensures.bound e);
-      same = c.within-spare.ensures.same;
+          spare_holds (g.T.Transport.meaning c.args.t.now) c.args.sender c.args.count (c.within_spare.ensures.bound e);
+      same = c.within_spare.ensures.same;
     }

@@ -8,4 +8,4 @@ pub returns-in-len2-up : goal.returns-in-len2-up
 returns-in-len2-up g c =
     let xs = c.args.before.now in
     let l : 2 ≤ length xs = omega (arith, ltb-false) in
-    c.content-in-range.ensures ∙ ap (λ ys. kind_allows g.B.Body.allows c.args.kind ys c.args.word) (sym (two_first xs l))
+    c.content_in_range.ensures ∙ ap (λ ys. kind_allows g.B.Body.allows c.args.kind ys c.args.word) (sym (two_first xs l))

@@ -8,4 +8,4 @@ pub returns-in-len3-up : goal.returns-in-len3-up
 returns-in-len3-up g c =
     let xs = c.args.before.now in
     let l : 3 ≤ length xs = omega (arith, ltb-false) in
-    c.in-range.ensures ∙ ap (λ ys. assigned_allows g.B.Body.allows ys c.args.word) (sym (three_first xs l))
+    c.in_range.ensures ∙ ap (λ ys. assigned_allows g.B.Body.allows ys c.args.word) (sym (three_first xs l))

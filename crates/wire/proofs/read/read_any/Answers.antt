@@ -10,4 +10,4 @@ returns-in-Some-of g c =
     reads_rest g.B.Body.words g.B.Body.allows g.B.Body.count g.B.Body.rebuilt
     law.counted law.ranged law.written law.rebuilding
     c.args.bytes.now c.in-Some-of.kind w.0
-    (ap kind_named (sym w.1) ∙ sym c.in-Some-of.ensures) c.read-rest.result c.read-rest.ensures
+    (ap kind_named (sym w.1) ∙ sym c.in-Some-of.ensures) c.read_rest.result c.read_rest.ensures

@@ -6,9 +6,9 @@ pub returns : goal.returns
 returns g c =
     let law = g.met.B.Body in
     record {
-      reads = c.read-any.ensures;
+      reads = c.read_any.ensures;
       exact =
           reads_exact g.B.Body.words g.B.Body.allows g.B.Body.count g.B.Body.rebuilt
           law.counted law.ranged law.written law.rebuilding
-          c.args.bytes.now (λ i. Fits-lt-pow (c.type-inv.bytes i)) c.read-any.result c.read-any.ensures;
+          c.args.bytes.now (λ i. Fits-lt-pow (c.type_inv.bytes i)) c.read_any.result c.read_any.ensures;
     }

@@ -6,4 +6,4 @@ use Rattle.wire.proofs.write.frame_length.Goals as goal
 pub returns : goal.returns
 returns g c =
     let l = length_words_bytes (frame_words g.B.Body.words c.args.frame) in
-    record { value = omega (arith, c.frame-words.ensures.value); bound = omega (arith, c.frame-words.ensures.bound) }
+    record { value = omega (arith, c.frame_words.ensures.value); bound = omega (arith, c.frame_words.ensures.bound) }

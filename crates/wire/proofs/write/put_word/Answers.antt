@@ -8,5 +8,5 @@ returns c =
     let at = c.args.at in
     let z : at + (at + 4 - at) ≡ at + 4 = omega arith in
     ap₂ (λ ys zs. take at out ++ (ys ++ zs))
-    (c.copy-from-slice.ensures.after ∙ c.to-be-bytes.ensures)
+    (c.copy_from_slice.ensures.after ∙ c.to_be_bytes.ensures)
     (drop-drop (at + 4 - at) at out ∙ ap (λ k. drop k out) z)

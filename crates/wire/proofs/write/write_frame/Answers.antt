@@ -5,11 +5,11 @@ pub returns : goal.returns
 returns g c =
     let law = g.met.B.Body in
     record {
-      answer = c.write-any.ensures.answer;
-      after = c.write-any.ensures.after;
+      answer = c.write_any.ensures.answer;
+      after = c.write_any.ensures.after;
       back =
           write_back g.B.Body.words g.B.Body.allows g.B.Body.count g.B.Body.rebuilt
           law.counted law.ranged law.written law.rebuilding
-          c.args.frame c.args.out.now c.write-any.new.out c.write-any.result
-          c.write-any.ensures.answer c.write-any.ensures.after;
+          c.args.frame c.args.out.now c.write_any.new.out c.write_any.result
+          c.write_any.ensures.answer c.write_any.ensures.after;
     }
