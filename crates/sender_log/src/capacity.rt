@@ -9,14 +9,14 @@ use body::Body;
 impl<B: Body> LogTransport<B> {
     // Whether this pair has no room for a post by `sender`.
     fn hinders(&self, sender: u32, receiver: u32) -> bool
-        ensures { result ≡ (hears (log_meaning remade self.now) sender receiver && is_full (log_meaning remade self.now) sender receiver) }
+        ensures { result ≡ (hears (log_meaning B.remade self.now) sender receiver && is_full (log_meaning B.remade self.now) sender receiver) }
     {
         self.hears_from(sender, receiver) && self.waits(sender, receiver) >= self.limit
     }
 
     // Whether a post by `sender` is accepted.
     pub(crate) fn has_room(&self, sender: u32) -> bool
-        ensures { result ≡ accepts (log_meaning remade self.now) sender }
+        ensures { result ≡ accepts (log_meaning B.remade self.now) sender }
     {
         if sender >= self.size {
             return false;
@@ -31,7 +31,7 @@ impl<B: Body> LogTransport<B> {
 
     // How many more frames of the sender a pair may get.
     fn room(&self, sender: u32, receiver: u32) -> usize
-        ensures { result ≡ room (log_meaning remade self.now) sender receiver }
+        ensures { result ≡ room (log_meaning B.remade self.now) sender receiver }
     {
         if self.hears_from(sender, receiver) {
             self.limit - self.waits(sender, receiver)
@@ -42,7 +42,7 @@ impl<B: Body> LogTransport<B> {
 
     // How many posts `sender` could make in a row: as many as its fullest pair has room for.
     pub(crate) fn posts_left(&self, sender: u32) -> usize
-        ensures { result ≡ most_posts (log_meaning remade self.now) sender }
+        ensures { result ≡ most_posts (log_meaning B.remade self.now) sender }
     {
         if sender >= self.size {
             return 0;

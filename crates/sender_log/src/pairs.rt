@@ -18,14 +18,14 @@ pub(crate) fn move_on(behinds: &mut [usize], pair: usize)
 impl<B: Body> LogTransport<B> {
     // Whether `receiver` is to get what `sender` posts.
     pub(crate) fn hears_from(&self, sender: u32, receiver: u32) -> bool
-        ensures { result ≡ hears (log_meaning remade self.now) sender receiver }
+        ensures { result ≡ hears (log_meaning B.remade self.now) sender receiver }
     {
         receiver < self.size && self.flags[receiver as usize] && receiver != sender
     }
 
     // How many frames wait for a pair.
     pub(crate) fn waits(&self, sender: u32, receiver: u32) -> usize
-        ensures value { result ≡ length ((log_meaning remade self.now).waiting sender receiver) }
+        ensures value { result ≡ length ((log_meaning B.remade self.now).waiting sender receiver) }
         ensures within { result ≤ self.now.limit }
     {
         if sender >= self.size || !self.hears_from(sender, receiver) {

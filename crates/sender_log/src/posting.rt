@@ -12,7 +12,7 @@ use frame::Frame;
 impl<B: Body> LogTransport<B> {
     // Sets each receiver that hears `sender` one frame further behind the end of its log.
     fn fall_behind(&mut self, sender: u32)
-        requires { accepts (log_meaning remade self.old) sender ≡ true }
+        requires { accepts (log_meaning B.remade self.old) sender ≡ true }
         ensures { FurtherBehind self.old self.new sender self.old.size }
     {
         for receiver in 0..self.size {
@@ -25,8 +25,8 @@ impl<B: Body> LogTransport<B> {
     // Writes a frame at the end of its sender's log, once for all that hear it. None of them is a whole circle behind, so
     // the cell is free.
     pub(crate) fn append(&mut self, frame: Frame<B>)
-        requires { accepts (log_meaning remade self.old) frame.sender.value ≡ true }
-        ensures { log_meaning remade self.new ≡ after_post (log_meaning remade self.old) frame }
+        requires { accepts (log_meaning B.remade self.old) frame.sender.value ≡ true }
+        ensures { log_meaning B.remade self.new ≡ after_post (log_meaning B.remade self.old) frame }
     {
         let sender = frame.sender.value;
         self.fall_behind(sender);

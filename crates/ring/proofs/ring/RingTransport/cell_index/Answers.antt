@@ -2,14 +2,14 @@ use Rattle.std.proofs.Common.{rules}
 use Rattle.ring.proofs.Steps.{cell_below}
 use Rattle.ring.proofs.ring.RingTransport.cell_index.Goals as goal
 
-pub overflow-mul-result-2 : goal.overflow-mul-result-2
-overflow-mul-result-2 g c =
+pub overflow_mul-result-2 : goal.overflow_mul-result-2
+overflow_mul-result-2 g c =
     let t = c.args.self.now in
     let h = cell_below t.size t.limit c.args.sender c.args.receiver c.args.place c.requires.0 c.requires.1 c.requires.2 in
     search rules
 
-pub overflow-add-result-2 : goal.overflow-add-result-2
-overflow-add-result-2 g c =
+pub overflow_add-result-2 : goal.overflow_add-result-2
+overflow_add-result-2 g c =
     let t = c.args.self.now in
     let h = cell_below t.size t.limit c.args.sender c.args.receiver c.args.place c.requires.0 c.requires.1 c.requires.2 in
     search rules

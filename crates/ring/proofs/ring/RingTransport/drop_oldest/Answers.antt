@@ -18,17 +18,17 @@ returns-then-held-eq0 g c =
     let t = c.args.self.now in
     take_nothing (ring_meaning g.row.B-Body.remade t) c.args.sender c.args.receiver
     (none_held g.row.B-Body.remade t.size t.limit t.flags t.starts t.helds (vec_items t.cells) c.args.sender c.args.receiver
-    (ap (λ x. get_or t.helds x 0) (sym c.pair-index-pair.ensures) ∙ c.if-held-eq0.true))
+    (ap (λ x. get_or t.helds x 0) (sym c.pair_index-pair.ensures) ∙ c.if-held-eq0.true))
 
-pub invariant-of-self : goal.invariant-of-self
-invariant-of-self g c =
+pub invariant_of-self : goal.invariant_of-self
+invariant_of-self g c =
     let t = c.args.self.now in
-    let k = c.pair-index-pair.result in
+    let k = c.pair_index-pair.result in
     let s = t.starts_ok k in
     let h = t.helds_ok k in
     let o = t.limit_ok in
     let a = around_below t.limit (get_or t.starts k 0) 1 s o in
-    let b : c.place-after.result < t.limit = subst (λ x. x < t.limit) (sym c.place-after.ensures) a in (
+    let b : c.place_after.result < t.limit = subst (λ x. x < t.limit) (sym c.place_after.ensures) a in (
       t.size_ok,
       (
         o,
@@ -45,14 +45,14 @@ invariant-of-self g c =
 pub returns : goal.returns
 returns g c =
     let t = c.args.self.now in
-    let k = c.pair-index-pair.result in
-    let e = c.pair-index-pair.ensures in
+    let k = c.pair_index-pair.result in
+    let e = c.pair_index-pair.ensures in
     let ls : length t.starts ≡ 64 = search rules in
     let lh : length t.helds ≡ 64 = search rules in
     let p = c.args.sender * 8 + c.args.receiver in
     ring_taken g.row.B-Body.remade t.size t.limit t.flags t.starts t.helds (vec_items t.cells)
-    c.args.sender c.args.receiver k c.place-after.result (get_or t.helds k 0 - 1)
+    c.args.sender c.args.receiver k c.place_after.result (get_or t.helds k 0 - 1)
     t.size_ok (sym c.if-not-reaches.ensures) ls lh e (t.starts_ok p)
     (λ z. c.if-held-eq0.false (ap (λ x. get_or t.helds x 0) e ∙ z)) (t.helds_ok p)
-    (c.place-after.ensures ∙ ap (λ x. around t.limit (get_or t.starts x 0) 1) e)
+    (c.place_after.ensures ∙ ap (λ x. around t.limit (get_or t.starts x 0) 1) e)
     (ap (λ x. get_or t.helds x 0 - 1) e)

@@ -2,8 +2,8 @@ use Rattle.std.proofs.Common.{◌*◌, ◌/◌, ap, arith}
 use Rattle.ring.proofs.Makes.{square_pos, fits_cells}
 use Rattle.ring.proofs.ring.RingTransport.limit_for.Goals as goal
 
-pub nonzero-div-result : goal.nonzero-div-result
-nonzero-div-result g c = square_pos c.args.n c.requires.0
+pub nonzero_div-result : goal.nonzero_div-result
+nonzero_div-result g c = square_pos c.args.n c.requires.0
 
 pub returns : goal.returns
 returns g c =

@@ -11,7 +11,7 @@ use Rattle.ring.proofs.ring.RingTransport.push_all.Goals.{then-hears, else-hears
 
 pub loop-receiver-init : goal.loop-receiver-init
 loop-receiver-init g c =
-    sym (part_none (ring_meaning g.row.B-Body.remade c.args.self.now) (stored g.row.B-Body.remade c.to-row-row.result))
+    sym (part_none (ring_meaning g.row.B-Body.remade c.args.self.now) (stored g.row.B-Body.remade c.to_row-row.result))
 
 pub push-requires : goal.push-requires
 push-requires g c =
@@ -21,7 +21,7 @@ push-requires g c =
     let f = c.args.frame in
     let s = f.sender.value in
     let j = c.loop-receiver.receiver in
-    let i : ring_meaning rem u ≡ part_posted m f j = c.loop-receiver.invariant ∙ ap (λ x. part_posted m x j) (ap or_idle c.to-row-row.ensures.again) in
+    let i : ring_meaning rem u ≡ part_posted m f j = c.loop-receiver.invariant ∙ ap (λ x. part_posted m x j) (ap or_idle c.to_row-row.ensures.again) in
     let b = accepts_below m s c.requires in
     let z = ap (λ x. x.size) i in
     let p : s < u.size = omega arith in
@@ -35,10 +35,10 @@ pub loop-receiver-preserved : goal.loop-receiver-preserved
 loop-receiver-preserved g c =
     let rem = g.row.B-Body.remade in
     let m = ring_meaning rem c.args.self.now in
-    let f = stored rem c.to-row-row.result in
+    let f = stored rem c.to_row-row.result in
     let s = c.args.frame.sender.value in
     let j = c.loop-receiver.receiver in
-    let o : s ≡ f.sender.value = ap (λ x. x.sender.value) (sym (ap or_idle c.to-row-row.ensures.again)) in
+    let o : s ≡ f.sender.value = ap (λ x. x.sender.value) (sym (ap or_idle c.to_row-row.ensures.again)) in
     let e = ap (λ x. hears x s j) c.loop-receiver.invariant in
     elim c.if-hears.branch [
       | then-hears w ↦
@@ -56,7 +56,7 @@ loop-receiver-preserved g c =
 pub returns : goal.returns
 returns g c =
     let m = ring_meaning g.row.B-Body.remade c.args.self.now in
-    let f = stored g.row.B-Body.remade c.to-row-row.result in
+    let f = stored g.row.B-Body.remade c.to_row-row.result in
     let e : c.loop-receiver.receiver ≡ c.args.self.now.size = omega arith in
     c.loop-receiver.invariant ∙
-    (ap (part_posted m f) e ∙ (part_all m f ∙ ap (after_post m) (ap or_idle c.to-row-row.ensures.again)))
+    (ap (part_posted m f) e ∙ (part_all m f ∙ ap (after_post m) (ap or_idle c.to_row-row.ensures.again)))

@@ -11,4 +11,4 @@ returns g c =
     let h = sym c.if-not-hears.ensures in
     let r = hears_reaches m t.size t.limit t.flags t.starts t.helds (vec_items t.cells) c.args.sender c.args.receiver c.requires.0 h in
     let l = waits_length m t.size t.limit t.flags t.starts t.helds (vec_items t.cells) c.args.sender c.args.receiver r in
-    ap (λ x. t.limit - get_or t.helds x 0) c.pair-index.ensures ∙ (ap (λ x. t.limit - x) (sym l) ∙ sym (cond-true _ _ _ h))
+    ap (λ x. t.limit - get_or t.helds x 0) c.pair_index.ensures ∙ (ap (λ x. t.limit - x) (sym l) ∙ sym (cond-true _ _ _ h))

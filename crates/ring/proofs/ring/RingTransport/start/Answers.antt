@@ -3,8 +3,8 @@ use Rattle.transport.proofs.TableLaws.{zeros}
 use Rattle.ring.proofs.Makes.{made_fresh}
 use Rattle.ring.proofs.ring.RingTransport.start.Goals as goal
 
-pub invariant-of-self : goal.invariant-of-self
-invariant-of-self g c =
+pub invariant_of-self : goal.invariant_of-self
+invariant_of-self g c =
     let o = c.requires.1 in
     (c.requires.0, (o, (c.requires.2, ((λ k. let z = zeros 64 k in omega arith), ((λ k. let z = zeros 64 k in omega arith), tt)))))
 

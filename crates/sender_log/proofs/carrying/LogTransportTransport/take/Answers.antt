@@ -13,13 +13,13 @@ returns-then-waits-eq0 g c =
     take_nothing (log_meaning g.row.B-Body.remade c.args.self.now) c.args.sender c.args.receiver
     (sym c.waits.ensures.value ∙ c.if-waits-eq0.true)
 
-pub invariant-of-self : goal.invariant-of-self
-invariant-of-self g c =
+pub invariant_of-self : goal.invariant_of-self
+invariant_of-self g c =
     let t = c.args.self.now in
     let k = c.args.sender * 8 + c.args.receiver in
     let h = t.behinds_ok k in
     let a = after_set (λ x. x ≤ t.limit) t.behinds k (get_or t.behinds k 0 - 1) (omega arith) t.behinds_ok in
-    (t.size_ok, (t.limit_ok, (t.cells_ok, (t.ends_ok, (subst (λ xs. (j : ℕ) → get_or xs j 0 ≤ t.limit) (sym c.move-on.ensures) a, tt)))))
+    (t.size_ok, (t.limit_ok, (t.cells_ok, (t.ends_ok, (subst (λ xs. (j : ℕ) → get_or xs j 0 ≤ t.limit) (sym c.move_on.ensures) a, tt)))))
 
 pub returns : goal.returns
 returns g c =
@@ -32,7 +32,7 @@ returns g c =
     let h : carries t.size t.flags s d ≡ true = waits_carries f t.size t.limit t.flags t.ends t.behinds (vec_items t.cells) s d (λ z. c.if-waits-eq0.false (e ∙ z)) in
     let w = waits_there f t.size t.limit t.flags t.ends t.behinds (vec_items t.cells) s d h in
     let p : 0 < at_pair t.behinds s d = positive (e ∙ w) c.if-waits-eq0.false in
-    ap (λ xs. log_net f t.size t.limit t.flags t.ends xs (vec_items t.cells)) c.move-on.ensures ∙
+    ap (λ xs. log_net f t.size t.limit t.flags t.ends xs (vec_items t.cells)) c.move_on.ensures ∙
     log_taken f t.size t.limit t.flags t.ends t.behinds (vec_items t.cells) s d
     t.size_ok h l (t.ends_ok s) p (t.behinds_ok (s * 8 + d))
   where

@@ -4,8 +4,8 @@ use Rattle.transport.proofs.TableLaws.{zeros}
 use Rattle.sender_log.proofs.Fresh.{made_fresh}
 use Rattle.sender_log.proofs.state.LogTransport.empty.Goals as goal
 
-pub invariant-of-result : goal.invariant-of-result
-invariant-of-result g c =
+pub invariant_of-result : goal.invariant_of-result
+invariant_of-result g c =
     let l = c.requires.1 in
     (c.requires.0, (l, (c.requires.2, ((λ k. let e = zeros 8 k in omega arith), ((λ k. let e = zeros 64 k in omega arith), tt)))))
 

@@ -7,18 +7,18 @@ use Rattle.sender_log.proofs.Behind.{carries_next, room_next}
 use Rattle.sender_log.proofs.LogLaws.{carries_parts}
 use Rattle.sender_log.proofs.Tables.{further_step, further_skip}
 use Rattle.sender_log.proofs.state.LogTransport.fall_behind.Goals as goal
-use Rattle.sender_log.proofs.state.LogTransport.fall_behind.Goals.{then-hears-from, else-hears-from}
+use Rattle.sender_log.proofs.state.LogTransport.fall_behind.Goals.{then-hears_from, else-hears_from}
 
-pub overflow-add-self-then-hears-from : goal.overflow-add-self-then-hears-from
-overflow-add-self-then-hears-from g c =
-    let r = room_next g.row.B-Body.remade c.args.self.now c.loop-receiver.self c.args.sender c.loop-receiver.receiver c.loop-receiver.invariant c.requires (sym c.if-hears-from.ensures) in
+pub overflow_add-self-then-hears_from : goal.overflow_add-self-then-hears_from
+overflow_add-self-then-hears_from g c =
+    let r = room_next g.row.B-Body.remade c.args.self.now c.loop-receiver.self c.args.sender c.loop-receiver.receiver c.loop-receiver.invariant c.requires (sym c.if-hears_from.ensures) in
     search rules
 
-pub invariant-of-self : goal.invariant-of-self
-invariant-of-self g c =
+pub invariant_of-self : goal.invariant_of-self
+invariant_of-self g c =
     let t = c.loop-receiver.self in
     let k = c.args.sender * 8 + c.loop-receiver.receiver in
-    let r = room_next g.row.B-Body.remade c.args.self.now t c.args.sender c.loop-receiver.receiver c.loop-receiver.invariant c.requires (sym c.if-hears-from.ensures) in
+    let r = room_next g.row.B-Body.remade c.args.self.now t c.args.sender c.loop-receiver.receiver c.loop-receiver.invariant c.requires (sym c.if-hears_from.ensures) in
     (t.size_ok, (t.limit_ok, (t.cells_ok, (t.ends_ok, (after_set (λ x. x ≤ t.limit) t.behinds k _ (omega arith) t.behinds_ok, tt)))))
 
 pub loop-receiver-preserved : goal.loop-receiver-preserved
@@ -32,9 +32,9 @@ loop-receiver-preserved g c =
     let l : length t.behinds ≡ 64 = search rules in
     let m = b.pairs in
     let n = carries_next g.row.B-Body.remade t u s k b c.requires in
-    elim c.if-hears-from.branch [
-      | then-hears-from w ↦
-          let v : carries t.size t.flags s k ≡ true = n ∙ (sym c.hears-from.ensures ∙ w.if-hears-from.true) in
+    elim c.if-hears_from.branch [
+      | then-hears_from w ↦
+          let v : carries t.size t.flags s k ≡ true = n ∙ (sym c.hears_from.ensures ∙ w.if-hears_from.true) in
           let q = carries_parts t.size t.flags s k v in
           let e = w.self-is in record {
             size = ap (λ x. x.size) e ∙ b.size;
@@ -46,7 +46,7 @@ loop-receiver-preserved g c =
             behinds = λ i j h. ap (λ x. at_pair x.behinds i j) e ∙
                 further_step t.size t.flags s t.behinds u.behinds k (omega arith) (omega arith) v b.behinds i j h;
           }
-      | else-hears-from w ↦ let e = w.self-is in record {
+      | else-hears_from w ↦ let e = w.self-is in record {
         size = ap (λ x. x.size) e ∙ b.size;
         limit = ap (λ x. x.limit) e ∙ b.limit;
         flags = ap (λ x. x.flags) e ∙ b.flags;
@@ -54,6 +54,6 @@ loop-receiver-preserved g c =
         cells = ap (λ x. x.cells) e ∙ b.cells;
         pairs = ap (λ x. length x.behinds) e ∙ b.pairs;
         behinds = λ i j h. ap (λ x. at_pair x.behinds i j) e ∙ (b.behinds i j h ∙
-            further_skip t.size t.flags s t.behinds k (n ∙ (sym c.hears-from.ensures ∙ w.if-hears-from.false)) i j);
+            further_skip t.size t.flags s t.behinds k (n ∙ (sym c.hears_from.ensures ∙ w.if-hears_from.false)) i j);
       }
     ]

@@ -7,8 +7,8 @@ use Rattle.transport.proofs.TableLaws.{zeros}
 use Rattle.sender_log.proofs.Fresh.{logs_fit, made_fresh}
 use Rattle.sender_log.proofs.state.LogTransport.make.Goals as goal
 
-pub invariant-of-self : goal.invariant-of-self
-invariant-of-self g c =
+pub invariant_of-self : goal.invariant_of-self
+invariant_of-self g c =
     let n = c.args.n in
     let h = logs_fit n c.len.result in
     let e = c.len.ensures in

@@ -9,6 +9,6 @@ returns g c =
     let f = stored g.row.B-Body.remade in
     let h = carries_heard f t.size t.limit t.flags t.ends t.behinds (vec_items t.cells) c.args.sender c.args.receiver c.if-sender-self.false in
     record {
-      value = sym (waits_there f t.size t.limit t.flags t.ends t.behinds (vec_items t.cells) c.args.sender c.args.receiver (h ∙ sym c.if-not-hears-from.ensures));
+      value = sym (waits_there f t.size t.limit t.flags t.ends t.behinds (vec_items t.cells) c.args.sender c.args.receiver (h ∙ sym c.if-not-hears_from.ensures));
       within = t.behinds_ok (c.args.sender * 8 + c.args.receiver);
     }
