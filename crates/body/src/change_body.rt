@@ -5,7 +5,7 @@ ghost use Rattle.body.specs.Faults.{unfit};
 ghost use Rattle.body.specs.Ranges.{change_number, change_named, uses};
 ghost use Rattle.body.specs.Changes.{change_of, change_words, change_allows, change_rebuilt, change_row, change_remade};
 ghost use Rattle.body.specs.ChangesLemmas.{change_written, change_of_self, change_plain};
-ghost use Rattle.std.proofs.Common.{rules, arith};
+ghost use Rattle.std.proofs.Common.{rules};
 
 use crate::change::{ChangeKind, ChangeRow, TemplateChange};
 use crate::faults::{WireFault, WireRefusal};
@@ -118,19 +118,19 @@ impl Body for TemplateChange {
 
     ghost remade = { change_remade };
 
-    ghost few = { first_of (Prim.search rules, Prim.grind (arith, Self.row.coded.inj)) };
+    ghost few = { Prim.search rules };
 
-    ghost counted = { first_of (Prim.search rules, Prim.grind (arith, Self.row.coded.inj)) };
+    ghost counted = { Prim.search rules };
 
-    ghost ranged = { first_of (Prim.search rules, Prim.grind (arith, Self.row.coded.inj)) };
+    ghost ranged = { Prim.search rules };
 
-    ghost written = { λ ws l h. change_written ws l h };
+    ghost written = { change_written };
 
-    ghost rebuilding = { λ b. change_of_self b };
+    ghost rebuilding = { change_of_self };
 
-    ghost remaking = { λ b. change_of_self b };
+    ghost remaking = { change_of_self };
 
-    ghost plain = { λ x b e. change_plain x b e };
+    ghost plain = { change_plain };
 
     fn word_count() -> usize {
         4

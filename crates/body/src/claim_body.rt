@@ -5,7 +5,7 @@ ghost use Rattle.body.specs.Faults.{unfit};
 ghost use Rattle.body.specs.Ranges.{claim_ok};
 ghost use Rattle.body.specs.Claims.{claim_of, claim_words, claim_allows, claim_rebuilt, claim_row, claim_remade};
 ghost use Rattle.body.specs.ClaimsLemmas.{claim_written, claim_of_self, claim_plain};
-ghost use Rattle.std.proofs.Common.{rules, arith};
+ghost use Rattle.std.proofs.Common.{rules};
 
 use crate::claim::{ClaimRow, NumberClaim};
 use crate::faults::{WireFault, WireRefusal};
@@ -47,19 +47,19 @@ impl Body for NumberClaim {
 
     ghost remade = { claim_remade };
 
-    ghost few = { first_of (Prim.search rules, Prim.grind (arith, Self.row.coded.inj)) };
+    ghost few = { Prim.search rules };
 
-    ghost counted = { first_of (Prim.search rules, Prim.grind (arith, Self.row.coded.inj)) };
+    ghost counted = { Prim.search rules };
 
-    ghost ranged = { first_of (Prim.search rules, Prim.grind (arith, Self.row.coded.inj)) };
+    ghost ranged = { Prim.search rules };
 
-    ghost written = { λ ws l h. claim_written ws l h };
+    ghost written = { claim_written };
 
-    ghost rebuilding = { λ b. claim_of_self b };
+    ghost rebuilding = { claim_of_self };
 
-    ghost remaking = { λ b. claim_of_self b };
+    ghost remaking = { claim_of_self };
 
-    ghost plain = { λ x b e. claim_plain x b e };
+    ghost plain = { claim_plain };
 
     fn word_count() -> usize {
         2

@@ -57,7 +57,7 @@ fn content_to_row<B: Body>(content: Content<B>) -> Content<B::Row>
 }
 
 fn content_from_row<B: Body>(content: Content<B::Row>) -> Option<Content<B>>
-    ensures { result ≡ content_remade B.Body.remade content }
+    ensures { result ≡ content_remade B.remade content }
 {
     match content {
         Content::Data {
@@ -119,7 +119,7 @@ fn row_of<B: Body>(frame: Frame<B>) -> FrameRow<B::Row>
 }
 
 fn frame_of<B: Body>(given: FrameRow<B::Row>) -> Option<Frame<B>>
-    ensures { result ≡ frame_remade B.Body.remade given }
+    ensures { result ≡ frame_remade B.remade given }
 {
     match content_from_row::<B>(given.content) {
         Some(content) => Frame::new(given.sender, given.clock, content).ok(),
@@ -131,14 +131,14 @@ impl<B: Body> Frame<B> {
     // The row of the frame, from which the same frame is made again.
     pub fn to_row(self) -> FrameRow<B::Row>
         ensures value { result ≡ frame_row B.Body.row self }
-        ensures again { frame_remade B.Body.remade result ≡ Some self }
+        ensures again { frame_remade B.remade result ≡ Some self }
     {
         row_of(self)
     }
 
     // The frame of a row; none of a row that no frame gives.
     pub fn from_row(given: FrameRow<B::Row>) -> Option<Frame<B>>
-        ensures value { result ≡ frame_remade B.Body.remade given }
+        ensures value { result ≡ frame_remade B.remade given }
         ensures plain { IfSome result (λ f. frame_row B.Body.row f ≡ given) }
     {
         frame_of::<B>(given)

@@ -2,7 +2,6 @@
 ghost use Rattle.std.specs.Prelude.{◌≡◌, ◌≤◌};
 ghost use Rattle.transport.specs.Nets.{after_post, most_posts, post_answer};
 ghost use Rattle.ring.specs.Meaning.{ring_meaning};
-ghost use Rattle.std.proofs.Common.{rules, arith};
 
 use crate::ring::RingTransport;
 use body::Body;
@@ -12,13 +11,13 @@ use transport::{Transport, TransportFault, TransportRefusal};
 impl<B: Body> Transport for RingTransport<B> {
     type Body = B;
 
-    ghost meaning = { ring_meaning B.Body.remade };
+    ghost meaning = { ring_meaning B.remade };
 
-    ghost limited = { first_of (Prim.search rules, Prim.grind (arith, Self.row.coded.inj)) };
+    ghost limited = { λ t. t.limit_ok };
 
     fn post(&mut self, sender: PrinterNumber, payload: Payload<B>) -> Result<(), TransportFault>
-        ensures answer { result ≡ post_answer (ring_meaning B.Body.remade self.old) sender.value }
-        ensures after { ring_meaning B.Body.remade self.new ≡ after_post (ring_meaning B.Body.remade self.old) (record { sender = sender; payload = payload }) }
+        ensures answer { result ≡ post_answer (ring_meaning B.remade self.old) sender.value }
+        ensures after { ring_meaning B.remade self.new ≡ after_post (ring_meaning B.remade self.old) (record { sender = sender; payload = payload }) }
     {
         if self.posts_left(sender.value) == 0 {
             return Err(TransportFault {
@@ -44,9 +43,9 @@ impl<B: Body> Transport for RingTransport<B> {
 
     // Here the answer is exact.
     fn spare(&mut self, sender: u32) -> usize
-        ensures bound { result ≤ most_posts (ring_meaning B.Body.remade self.old) sender }
-        ensures same { ring_meaning B.Body.remade self.new ≡ ring_meaning B.Body.remade self.old }
-        ensures exact { result ≡ most_posts (ring_meaning B.Body.remade self.old) sender }
+        ensures bound { result ≤ most_posts (ring_meaning B.remade self.old) sender }
+        ensures same { ring_meaning B.remade self.new ≡ ring_meaning B.remade self.old }
+        ensures exact { result ≡ most_posts (ring_meaning B.remade self.old) sender }
     {
         self.posts_left(sender)
     }

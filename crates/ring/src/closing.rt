@@ -9,7 +9,7 @@ use body::Body;
 impl<B: Body> RingTransport<B> {
     // A closed printer never opens again, so that what waits for it need not be cleared.
     pub(crate) fn shut(&mut self, printer: u32)
-        ensures { ring_meaning B.Body.remade self.new ≡ after_close (ring_meaning B.Body.remade self.old) printer }
+        ensures { ring_meaning B.remade self.new ≡ after_close (ring_meaning B.remade self.old) printer }
     {
         if printer >= self.size {
             return;

@@ -12,7 +12,7 @@ impl<B: Body> RingTransport<B> {
     // An empty place for a transport, without printers.
     pub fn vacant(cells: Vec<FrameRow<B::Row>>) -> RingTransport<B>
         ensures cells { result.cells ≡ cells }
-        ensures meaning { ring_meaning B.Body.remade result ≡ fresh 0 1 }
+        ensures meaning { ring_meaning B.remade result ≡ fresh 0 1 }
     {
         RingTransport {
             size: 0,
@@ -40,7 +40,7 @@ impl<B: Body> RingTransport<B> {
         requires at_most_eight { n ≤ 8 }
         requires some_limit { 1 ≤ limit }
         requires enough_cells { n * n * limit ≤ vec_len self.old.cells }
-        ensures meaning { ring_meaning B.Body.remade self.new ≡ fresh n limit }
+        ensures meaning { ring_meaning B.remade self.new ≡ fresh n limit }
         ensures cells { self.new.cells ≡ self.old.cells }
     {
         self.size = n;
@@ -54,7 +54,7 @@ impl<B: Body> RingTransport<B> {
     // it was, if n is below 2 or above 8, or if there are too few cells for a frame of each pair.
     pub fn make(&mut self, n: u32) -> Result<(), TransportFault>
         ensures answer { result ≡ making_answer n (vec_len self.old.cells / (n * n)) }
-        ensures meaning { result ≡ Ok tt → ring_meaning B.Body.remade self.new ≡ fresh n (vec_len self.old.cells / (n * n)) }
+        ensures meaning { result ≡ Ok tt → ring_meaning B.remade self.new ≡ fresh n (vec_len self.old.cells / (n * n)) }
         ensures cells { self.new.cells ≡ self.old.cells }
         ensures refused { (e : _) → result ≡ Err e → self.new ≡ self.old }
     {

@@ -14,7 +14,7 @@ use frame::{Frame, FrameRow};
 impl<B: Body> RingTransport<B> {
     // Whether a printer is to get what the sender posts.
     fn hears(&self, sender: u32, receiver: u32) -> bool
-        ensures { result ≡ hears (ring_meaning B.Body.remade self.now) sender receiver }
+        ensures { result ≡ hears (ring_meaning B.remade self.now) sender receiver }
     {
         receiver < self.size && self.flags[receiver as usize] && receiver != sender
     }
@@ -23,7 +23,7 @@ impl<B: Body> RingTransport<B> {
     fn room_left(&self, sender: u32, receiver: u32) -> usize
         requires sender_there { sender < self.now.size }
         requires receiver_there { receiver < self.now.size }
-        ensures { result ≡ room (ring_meaning B.Body.remade self.now) sender receiver }
+        ensures { result ≡ room (ring_meaning B.remade self.now) sender receiver }
     {
         if !self.hears(sender, receiver) {
             return self.limit;
@@ -33,7 +33,7 @@ impl<B: Body> RingTransport<B> {
 
     // How many posts the sender could make in a row.
     pub(crate) fn posts_left(&self, sender: u32) -> usize
-        ensures { result ≡ most_posts (ring_meaning B.Body.remade self.now) sender }
+        ensures { result ≡ most_posts (ring_meaning B.remade self.now) sender }
     {
         if sender >= self.size {
             return 0;
@@ -49,7 +49,7 @@ impl<B: Body> RingTransport<B> {
     fn push(&mut self, sender: u32, receiver: u32, row: FrameRow<B::Row>)
         requires reached { reaches self.old.size self.old.flags sender receiver ≡ true }
         requires has_room { at_pair self.old.helds sender receiver < self.old.limit }
-        ensures { ring_meaning B.Body.remade self.new ≡ pushed (ring_meaning B.Body.remade self.old) sender receiver (stored B.Body.remade row) }
+        ensures { ring_meaning B.remade self.new ≡ pushed (ring_meaning B.remade self.old) sender receiver (stored B.remade row) }
     {
         let pair = pair_index(sender, receiver);
         let held = self.helds[pair];
@@ -61,8 +61,8 @@ impl<B: Body> RingTransport<B> {
 
     // A frame at the end of each pair that hears its sender.
     pub(crate) fn push_all(&mut self, frame: Frame<B>)
-        requires { accepts (ring_meaning B.Body.remade self.old) frame.sender.value ≡ true }
-        ensures { ring_meaning B.Body.remade self.new ≡ after_post (ring_meaning B.Body.remade self.old) frame }
+        requires { accepts (ring_meaning B.remade self.old) frame.sender.value ≡ true }
+        ensures { ring_meaning B.remade self.new ≡ after_post (ring_meaning B.remade self.old) frame }
     {
         let sender = frame.sender.value;
         let row = frame.to_row();

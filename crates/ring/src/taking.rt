@@ -12,7 +12,7 @@ use transport::stored_frame;
 impl<B: Body> RingTransport<B> {
     // The oldest frame of a pair.
     pub(crate) fn oldest_of(&self, sender: u32, receiver: u32) -> Option<Frame<B>>
-        ensures { result ≡ oldest (ring_meaning B.Body.remade self.now) sender receiver }
+        ensures { result ≡ oldest (ring_meaning B.remade self.now) sender receiver }
     {
         if !self.reaches(sender, receiver) {
             return None;
@@ -27,7 +27,7 @@ impl<B: Body> RingTransport<B> {
 
     // Removes the oldest frame of a pair: its cell is free again, and the next frame is the oldest.
     pub(crate) fn drop_oldest(&mut self, sender: u32, receiver: u32)
-        ensures { ring_meaning B.Body.remade self.new ≡ after_take (ring_meaning B.Body.remade self.old) sender receiver }
+        ensures { ring_meaning B.remade self.new ≡ after_take (ring_meaning B.remade self.old) sender receiver }
     {
         if !self.reaches(sender, receiver) {
             return;

@@ -12,13 +12,13 @@ use transport::{Transport, TransportFault, TransportRefusal, stored_frame};
 impl<B: Body> Transport for LogTransport<B> {
     type Body = B;
 
-    ghost meaning = { log_meaning B.Body.remade };
+    ghost meaning = { log_meaning B.remade };
 
     ghost limited = { λ t. t.limit_ok };
 
     fn post(&mut self, sender: PrinterNumber, payload: Payload<B>) -> Result<(), TransportFault>
-        ensures answer { result ≡ post_answer (log_meaning B.Body.remade self.old) sender.value }
-        ensures after { log_meaning B.Body.remade self.new ≡ after_post (log_meaning B.Body.remade self.old) (record { sender = sender; payload = payload }) }
+        ensures answer { result ≡ post_answer (log_meaning B.remade self.old) sender.value }
+        ensures after { log_meaning B.remade self.new ≡ after_post (log_meaning B.remade self.old) (record { sender = sender; payload = payload }) }
     {
         if !self.has_room(sender.value) {
             return Err(TransportFault {
@@ -56,9 +56,9 @@ impl<B: Body> Transport for LogTransport<B> {
 
     // Exactly the number of posts that the sender could make in a row.
     fn spare(&mut self, sender: u32) -> usize
-        ensures bound { result ≤ most_posts (log_meaning B.Body.remade self.old) sender }
-        ensures same { log_meaning B.Body.remade self.new ≡ log_meaning B.Body.remade self.old }
-        ensures exact { result ≡ most_posts (log_meaning B.Body.remade self.old) sender }
+        ensures bound { result ≤ most_posts (log_meaning B.remade self.old) sender }
+        ensures same { log_meaning B.remade self.new ≡ log_meaning B.remade self.old }
+        ensures exact { result ≡ most_posts (log_meaning B.remade self.old) sender }
     {
         self.posts_left(sender)
     }

@@ -15,7 +15,7 @@ impl<B: Body> LogTransport<B> {
         requires le_limit { 1 ≤ limit }
         requires limit_in_bounds { n * limit ≤ vec_len cells }
         ensures cells { result.cells ≡ cells }
-        ensures meaning { log_meaning B.Body.remade result ≡ fresh n limit }
+        ensures meaning { log_meaning B.remade result ≡ fresh n limit }
     {
         LogTransport {
             size: n,
@@ -30,7 +30,7 @@ impl<B: Body> LogTransport<B> {
     // A place for a transport over these cells, whatever they hold: no printers yet.
     pub fn vacant(cells: Vec<FrameRow<B::Row>>) -> LogTransport<B>
         ensures cells { result.cells ≡ cells }
-        ensures meaning { log_meaning B.Body.remade result ≡ fresh 0 1 }
+        ensures meaning { log_meaning B.remade result ≡ fresh 0 1 }
     {
         LogTransport::empty(0, 1, cells)
     }
@@ -39,7 +39,7 @@ impl<B: Body> LogTransport<B> {
     pub fn make(&mut self, n: u32) -> Result<(), TransportFault>
         ensures answer { result ≡ making_answer n (vec_len self.old.cells / n) }
         ensures cells { self.new.cells ≡ self.old.cells }
-        ensures made { result ≡ Ok tt → log_meaning B.Body.remade self.new ≡ fresh n (vec_len self.old.cells / n) }
+        ensures made { result ≡ Ok tt → log_meaning B.remade self.new ≡ fresh n (vec_len self.old.cells / n) }
         ensures kept { (e : _) → result ≡ Err e → self.new ≡ self.old }
     {
         if n < 2 || n > 8 {

@@ -19,7 +19,7 @@ fn idle_frame<B: Body>() -> Frame<B>
 // The frame that a cell holds. Cells hold anything before they are written; a row that no frame gives is read as an
 // idle clock frame, so that reading needs no failure of its own.
 pub fn stored_frame<B: Body>(row: FrameRow<B::Row>) -> Frame<B>
-    ensures { result ≡ stored B.Body.remade row }
+    ensures { result ≡ stored B.remade row }
 {
     match Frame::from_row(row) {
         Some(frame) => frame,
