@@ -5,8 +5,8 @@ mod transport_stop;
 mod wire_stop;
 
 use anyhow::anyhow;
-use sender_log::LogTransport;
 use ring::RingTransport;
+use sender_log::LogTransport;
 use transport_stop::carry;
 use wire::{ClaimRow, Content, FrameRow, NumberClaim, TicketNumber};
 use wire_stop::{damaged_block, number_claim, template_change};

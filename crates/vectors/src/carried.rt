@@ -1,6 +1,6 @@
 // Frames over any transport of three printers whose pairs hold two frames.
-use sender_log::LogTransport;
 use ring::RingTransport;
+use sender_log::LogTransport;
 use std::alloc::Global;
 use std::process::Abort;
 use std::test::Fail;
