@@ -1,7 +1,7 @@
 -- Every block that is written as a line is read back.
 use Rattle.std.proofs.Common.{◌≡◌, ℕ, ◌+◌, ◌-◌, ◌*◌, ◌/◌, ◌%◌, ◌<◌, false, List, [], ◌∷◌, ◌++◌, reverse, length, Some, fold, sym, refl, ap, ◌∙◌, div-add-mod', arith}
 use Rattle.std.specs.Option.{option_map}
-use Rattle.std.specs.List.{prefix_len, suffix_len, AllByRecursion as All}
+use Rattle.std.specs.List.{prefix_len, suffix_len, AllByRecursion}
 use Rattle.std.proofs.lemmas.List.{append_assoc, append-nil, reverse-append, take_all}
 use Rattle.std.proofs.lemmas.Bool.{cond-false}
 use Rattle.std.proofs.lemmas.Bool.Decides.{nat_tests}
@@ -25,7 +25,7 @@ nibbles (b ∷ bs) = b / 16 ∷ (b % 16 ∷ nibbles bs)
 step_back : (ds : List ℕ) (d : ℕ) → d < 16 → digits_step (Some ds) (digit_char d) ≡ Some (ds ++ d ∷ [])
 step_back ds d h = ap (with_char ds (digit_char d)) (digit_back d h)
 
-digits_back : (ds bs : List ℕ) → All (λ b. b < 256) bs
+digits_back : (ds bs : List ℕ) → AllByRecursion (λ b. b < 256) bs
     → fold digits_step (Some ds) (hex_of bs) ≡ Some (ds ++ nibbles bs)
 digits_back ds [] a = ap (λ xs. Some xs) (sym (append-nil ds))
 digits_back ds (b ∷ bs) (h, a) =
@@ -39,7 +39,7 @@ bytes_back [] = refl
 bytes_back (b ∷ bs) =
     ap (option_map (λ more. (b / 16 * 16 + b % 16) ∷ more)) (bytes_back bs) ∙ ap (λ x. Some (x ∷ bs)) (div-add-mod' b 16)
 
-hex_back : (bs : List ℕ) → All (λ b. b < 256) bs → hex_block (hex_of bs) ≡ Some bs
+hex_back : (bs : List ℕ) → AllByRecursion (λ b. b < 256) bs → hex_block (hex_of bs) ≡ Some bs
 hex_back bs a = ap (λ o. and_then o bytes_of) (digits_back [] bs a) ∙ bytes_back bs
 
 -- a text that ends in no blank is not cut at its end
@@ -59,7 +59,7 @@ record Ending (cs : List ℕ) : Type 0 where
   is : cs ≡ front ++ last ∷ []
   dark : blank last ≡ false
 
-hex_ending : (b : ℕ) (bs : List ℕ) → All (λ x. x < 256) (b ∷ bs) → Ending (hex_of (b ∷ bs))
+hex_ending : (b : ℕ) (bs : List ℕ) → AllByRecursion (λ x. x < 256) (b ∷ bs) → Ending (hex_of (b ∷ bs))
 hex_ending b [] (h, a) =
     record {
       front = digit_char (b / 16) ∷ [];

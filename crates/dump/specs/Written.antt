@@ -1,6 +1,6 @@
 -- How a block is written as a line, and that every such line is read back.
 use Rattle.std.specs.Prelude.{◌≡◌, ℕ, ◌+◌, ◌-◌, ◌/◌, ◌%◌, ◌<◌, cond, List, [], ◌∷◌, ◌++◌, Some, codes, nat_lt}
-use Rattle.std.specs.List.{AllByRecursion as All}
+use Rattle.std.specs.List.{AllByRecursion}
 use Rattle.dump.specs.declared.line.BodyKind.{BodyKind}
 use Rattle.dump.specs.declared.line.BodyKind.TheVariants.{Change, Claim}
 use Rattle.dump.specs.Lines.{line_means}
@@ -22,4 +22,4 @@ abbrev pub written : BodyKind → List ℕ → List ℕ
 written k bs = name_of k ++ (space ∷ hex_of bs)
 
 abbrev pub ReadBack : Type 0
-ReadBack = (k : BodyKind) (bs : List ℕ) → All (λ b. b < 256) bs → line_means (written k bs) ≡ Some (k, bs)
+ReadBack = (k : BodyKind) (bs : List ℕ) → AllByRecursion (λ b. b < 256) bs → line_means (written k bs) ≡ Some (k, bs)
