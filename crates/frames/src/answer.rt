@@ -10,7 +10,7 @@ use std::alloc::{AllocError, Global};
 use wire::read_frame;
 
 fn block_answer<B: Body>(heap: Global, block: &[u8]) -> Result<String, AllocError>
-    ensures { IfOk result (λ s. BlockText words allows count block.now (string_bytes s)) }
+    ensures { IfOk result (λ s. BlockText B.words allows count block.now (string_bytes s)) }
 {
     match read_frame::<B>(block) {
         Ok(frame) => frame_text(heap, frame),

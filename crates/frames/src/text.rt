@@ -64,7 +64,7 @@ fn push_word(heap: Global, text: &mut String, lead: &str, word: u32) -> Result<(
 
 // The words of a body, with commas between them.
 fn push_body<B: Body>(heap: Global, text: &mut String, body: B) -> Result<(), AllocError>
-    ensures { OnOk result (string_bytes text.new ≡ string_bytes text.old ++ body_text (words body)) }
+    ensures { OnOk result (string_bytes text.new ≡ string_bytes text.old ++ body_text (B.words body)) }
 {
     push_word(heap, text, " body=", body.word(0))?;
     for i in 1..B::word_count() {
@@ -91,7 +91,7 @@ fn content_text<B: Body>(
     head: &str,
     content: Content<B>,
 ) -> Result<String, AllocError>
-    ensures { IfOk result (λ s. string_bytes s ≡ content_text words head.now content) }
+    ensures { IfOk result (λ s. string_bytes s ≡ content_text B.words head.now content) }
 {
     match content {
         Content::Data {
@@ -126,7 +126,7 @@ fn content_text<B: Body>(
 }
 
 pub(crate) fn frame_text<B: Body>(heap: Global, frame: Frame<B>) -> Result<String, AllocError>
-    ensures { IfOk result (λ s. string_bytes s ≡ frame_text words frame) }
+    ensures { IfOk result (λ s. string_bytes s ≡ frame_text B.words frame) }
 {
     let name = kind_name(frame.kind());
     let head = head_text(heap, name, frame.sender.value, frame.payload.clock.0)?;

@@ -26,8 +26,8 @@ impl<B: Body> RingTransport<B> {
 
     // How many frames each ordered pair of n printers may hold: the cells in equal shares.
     fn limit_for(&self, n: u32) -> usize
-        requires le_n { 2 ≤ n }
-        requires n_bound { n ≤ 8 }
+        requires at_least_two { 2 ≤ n }
+        requires at_most_eight { n ≤ 8 }
         ensures value { result ≡ vec_len self.now.cells / (n * n) }
         ensures fits { n * n * result ≤ vec_len self.now.cells }
     {
@@ -37,9 +37,9 @@ impl<B: Body> RingTransport<B> {
 
     // The rings of n printers, all empty and open.
     fn start(&mut self, n: u32, limit: usize)
-        requires n_bound { n ≤ 8 }
-        requires le_limit { 1 ≤ limit }
-        requires limit_in_bounds { n * n * limit ≤ vec_len self.old.cells }
+        requires at_most_eight { n ≤ 8 }
+        requires some_limit { 1 ≤ limit }
+        requires enough_cells { n * n * limit ≤ vec_len self.old.cells }
         ensures meaning { ring_meaning B.Body.remade self.new ≡ fresh n limit }
         ensures cells { self.new.cells ≡ self.old.cells }
     {

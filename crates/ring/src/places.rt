@@ -8,8 +8,8 @@ use body::Body;
 
 // The place k steps after start, in a circle of limit places.
 pub(crate) fn place_after(limit: usize, start: usize, k: usize) -> usize
-    requires start_lt_limit { start < limit }
-    requires k_le_limit { k ≤ limit }
+    requires start_below { start < limit }
+    requires steps_below { k ≤ limit }
     ensures { result ≡ around limit start k }
 {
     let room = limit - start;
@@ -28,9 +28,9 @@ pub(crate) fn pair_index(sender: u32, receiver: u32) -> usize
 impl<B: Body> RingTransport<B> {
     // The cell of a place in the circle of a pair.
     pub(crate) fn cell_index(&self, sender: u32, receiver: u32, place: usize) -> usize
-        requires sender_lt_size { sender < self.now.size }
-        requires receiver_lt_size { receiver < self.now.size }
-        requires place_lt_limit { place < self.now.limit }
+        requires sender_there { sender < self.now.size }
+        requires receiver_there { receiver < self.now.size }
+        requires place_there { place < self.now.limit }
         ensures { result ≡ cell self.now.size self.now.limit sender receiver place }
     {
         (sender as usize * self.size as usize + receiver as usize) * self.limit + place

@@ -21,8 +21,8 @@ impl<B: Body> RingTransport<B> {
 
     // How many more frames a pair may get; the limit, if the receiver does not hear the sender.
     fn room_left(&self, sender: u32, receiver: u32) -> usize
-        requires sender_lt_size { sender < self.now.size }
-        requires receiver_lt_size { receiver < self.now.size }
+        requires sender_there { sender < self.now.size }
+        requires receiver_there { receiver < self.now.size }
         ensures { result ≡ room (ring_meaning B.Body.remade self.now) sender receiver }
     {
         if !self.hears(sender, receiver) {
@@ -47,8 +47,8 @@ impl<B: Body> RingTransport<B> {
 
     // One row more at the end of a pair that has room.
     fn push(&mut self, sender: u32, receiver: u32, row: FrameRow<B::Row>)
-        requires receiver_value { reaches self.old.size self.old.flags sender receiver ≡ true }
-        requires receiver_bound { at_pair self.old.helds sender receiver < self.old.limit }
+        requires reached { reaches self.old.size self.old.flags sender receiver ≡ true }
+        requires has_room { at_pair self.old.helds sender receiver < self.old.limit }
         ensures { ring_meaning B.Body.remade self.new ≡ pushed (ring_meaning B.Body.remade self.old) sender receiver (stored B.Body.remade row) }
     {
         let pair = pair_index(sender, receiver);

@@ -1,5 +1,6 @@
 -- The receivers of a post set one frame further behind, one after another.
 use Rattle.std.proofs.Common.{◌≡◌, ℕ, ◌<◌, Bool, true, false, not, ◌&&◌, eqb, ltb, List, get_or, vec_items, Option, sym, ◌∙◌, ap₂, arith}
+use Rattle.body.specs.declared.kind.Body.{Ghosts}
 use Rattle.transport.specs.Nets.{accepts, hears}
 use Rattle.transport.specs.Stored.{stored}
 use Rattle.transport.proofs.NetLaws.{accepts_below}
@@ -12,7 +13,7 @@ use Rattle.sender_log.proofs.LogLaws.{carries_parts, carries_heard, waits_there}
 use Rattle.sender_log.proofs.Posts.{accepts_room}
 use Rattle.sender_log.proofs.Tables.{further_next}
 
-module _ {B R : Type 0} (remade : R → Option B) (t u : LogTransport B R) (s k : ℕ) (b : FurtherBehind t u s k) (ha : accepts (log_meaning remade t) s ≡ true) where
+module _ {B R : Type 0} {g : Ghosts B R} (remade : R → Option B) (t u : LogTransport B R g) (s k : ℕ) (b : FurtherBehind t u s k) (ha : accepts (log_meaning remade t) s ≡ true) where
   -- who hears whom has not changed
   pub carries_next : carries t.size t.flags s k ≡ hears (log_meaning remade u) s k
   carries_next =

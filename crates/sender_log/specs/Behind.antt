@@ -1,11 +1,12 @@
 -- Receivers further behind the end of a log.
 use Rattle.std.specs.Prelude.{◌≡◌, ℕ, ◌+◌, ◌<◌, cond, ◌&&◌, length, ◌==◌, nat_lt}
+use Rattle.body.specs.declared.kind.Body.{Ghosts}
 use Rattle.transport.specs.Tables.{at_pair}
 use Rattle.sender_log.specs.Logs.{carries}
 use Rattle.sender_log.specs.declared.state.LogTransport.{LogTransport}
 
 -- now is before, but that each receiver below k to whom s carries is one frame further behind
-pub record FurtherBehind {B R : Type 0} (before now : LogTransport B R) (s k : ℕ) : Type 0 where
+pub record FurtherBehind {B R : Type 0} {g : Ghosts B R} (before now : LogTransport B R g) (s k : ℕ) : Type 0 where
   pub size : now.size ≡ before.size
   pub limit : now.limit ≡ before.limit
   pub flags : now.flags ≡ before.flags

@@ -2,7 +2,6 @@
 ghost use Rattle.std.specs.Prelude.{◌≡◌, ◌≤◌};
 ghost use Rattle.transport.specs.Nets.{post_answer, after_post, most_posts};
 ghost use Rattle.sender_log.specs.Meaning.{log_meaning};
-ghost use Rattle.std.proofs.Common.{rules, arith};
 
 use crate::pairs::move_on;
 use crate::state::LogTransport;
@@ -15,7 +14,7 @@ impl<B: Body> Transport for LogTransport<B> {
 
     ghost meaning = { log_meaning B.Body.remade };
 
-    ghost limited = { first_of (Prim.search rules, Prim.grind (arith, Self.row.coded.inj)) };
+    ghost limited = { λ t. t.limit_ok };
 
     fn post(&mut self, sender: PrinterNumber, payload: Payload<B>) -> Result<(), TransportFault>
         ensures answer { result ≡ post_answer (log_meaning B.Body.remade self.old) sender.value }

@@ -1,10 +1,10 @@
 -- One turn of the reader, and its end.
 use Rattle.std.proofs.Common.{◌≡◌, ℕ, ◌+◌, ◌*◌, ◌<◌, ◌≤◌, Bool, true, false, cond, eqb, leb, List, [], ◌∷◌, ◌++◌, length, get_or, take, drop, set, Ok, Err, Result, sym, refl, ap, ◌∙◌, subst, arith}
 use Rattle.std.proofs.lemmas.List.{drop_more, length-drop, drop_all, length-take-le, take_more_set}
-use Rattle.std.proofs.lemmas.Bool.{eq-eqb, ne_eqb, cond-true, cond-false, leb-true, leb-false, cases_lt, lt-leb, le-leb}
+use Rattle.std.proofs.lemmas.Bool.{eq-eqb, ne_eqb, cond-true, cond-false, leb-true, leb-false}
 use Rattle.body.specs.declared.WireFault.{WireFault}
-use Rattle.body.specs.declared.WireRefusal.TheVariants.{EndsTooSoon, OutOfRange, LeftOver}
-use Rattle.wire.specs.Bytes.{word_of, word_at}
+use Rattle.body.specs.declared.WireRefusal.TheVariants.{EndsTooSoon, LeftOver}
+use Rattle.wire.specs.Bytes.{word_at}
 use Rattle.wire.specs.Reading.{words_on, stopped, unfit_word, place}
 use Rattle.wire.specs.Filling.{next_word}
 

@@ -1,11 +1,10 @@
 -- The words of a frame are in range, and words in range are those of a frame.
-use Rattle.std.proofs.Common.{◌≡◌, ℕ, suc, ◌+◌, ◌≤◌, Bool, true, false, ◌&&◌, List, [], ◌∷◌, ◌++◌, length, get_or, Some, None, Option, sym, refl, ap, ◌∙◌, subst, arith}
+use Rattle.std.proofs.Common.{◌≡◌, ℕ, suc, ◌≤◌, Bool, true, ◌&&◌, List, [], ◌∷◌, ◌++◌, length, Some, Option, sym, refl, ap, ◌∙◌, subst, arith}
 use Rattle.std.proofs.lemmas.List.{nil_from_length}
 use Rattle.std.proofs.lemmas.Bool.Decides.{nat_tests}
 use Rattle.body.specs.Words.{in_order, is_word}
 use Rattle.frame.specs.Ranges.{is_printer, payload_ok}
 use Rattle.frame.specs.Contents.{kind_of}
-use Rattle.frame.specs.Frames.{frame_of}
 use Rattle.frame.specs.Rows.{with_body, frame_with}
 use Rattle.frame.specs.declared.TicketNumber.{TicketNumber}
 use Rattle.frame.specs.declared.Frame.{Frame}
@@ -16,7 +15,7 @@ use Rattle.frame.specs.declared.FrameKind.TheVariants as kinds
 use Rattle.frame.proofs.Parts.{frame_of_self}
 use Rattle.wire.specs.Layout.{kind_count, kind_allows, content_words, rest_words}
 use Rattle.wire.specs.Rebuilt.{content_rebuilt, frame_rebuilt}
-use Rattle.wire.proofs.Fronts.{two_first, two_all, three_first, three_all, four_all, behind, length_behind}
+use Rattle.wire.proofs.Fronts.{two_all, three_first, three_all, four_all, behind, length_behind}
 
 -- a body's words behind the others are judged as the body's alone
 pub body_order : (allows : List ℕ → ℕ → Bool) (s k n q r : ℕ) (vs before : List ℕ) →

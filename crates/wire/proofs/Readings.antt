@@ -1,11 +1,10 @@
 -- What is read of bytes is the frame that they were written of.
-use Rattle.std.proofs.Common.{◌≡◌, ℕ, suc, ◌+◌, ◌*◌, ◌/◌, ◌%◌, ◌<◌, ◌≤◌, Bool, true, false, cond, leb, List, [], ◌∷◌, ◌++◌, length, get_or, take, drop, IfOk, Some, None, Ok, Err, Option, Result, sym, refl, ap, ◌∙◌, subst, ap₂, arith}
+use Rattle.std.proofs.Common.{◌≡◌, ℕ, suc, ◌+◌, ◌/◌, ◌%◌, ◌<◌, ◌≤◌, Bool, true, false, cond, leb, List, [], ◌∷◌, ◌++◌, length, take, drop, IfOk, Some, None, Ok, Err, Option, Result, sym, refl, ap, ◌∙◌, subst, ap₂, arith}
 use Rattle.std.proofs.lemmas.List.{get_or-drop}
 use Rattle.std.proofs.lemmas.Bool.{leb-true}
 use Rattle.std.proofs.lemmas.Bool.Decides.{nat_tests}
 use Rattle.body.specs.Words.{in_order}
 use Rattle.body.specs.declared.WireFault.{WireFault}
-use Rattle.body.specs.declared.WireRefusal.TheVariants.{EndsTooSoon}
 use Rattle.frame.specs.Kinds.{kind_named, kind_number}
 use Rattle.frame.specs.Contents.{kind_of}
 use Rattle.frame.specs.declared.Frame.{Frame}
@@ -18,7 +17,7 @@ use Rattle.wire.specs.Reading.{words_on, words_read, words_by_kind, behind_kind,
 use Rattle.wire.specs.Writing.{write_answer, write_after}
 use Rattle.wire.specs.Filling.{RestReads}
 use Rattle.wire.proofs.WordBytes.{Bytes, bytes_again}
-use Rattle.wire.proofs.Scans.{Scanned, scan_read, scan_written}
+use Rattle.wire.proofs.Scans.{scan_read, scan_written}
 use Rattle.wire.proofs.Written.{write_front, ok_same}
 use Rattle.wire.proofs.FrameWords.{frame_ranged, frame_long, frame_rebuilds, frame_spelled}
 

@@ -1,10 +1,9 @@
 -- Reading words and writing them undo each other.
-use Rattle.std.proofs.Common.{◌≡◌, ℕ, suc, ◌+◌, ◌*◌, ◌/◌, ◌%◌, ◌<◌, ◌≤◌, Bool, true, false, cond, ◌&&◌, eqb, ltb, List, [], ◌∷◌, ◌++◌, length, get_or, Ok, Err, Result, sym, refl, ap, ◌∙◌, arith}
-use Rattle.std.proofs.lemmas.List.{append-nil, append_assoc, length-append, length_push}
-use Rattle.std.proofs.lemmas.Bool.{and_parts, and_from, eqb-true, ne_eqb, eq-eqb, ltb-true, lt-ltb, cond-true, cond-false, cases_Bool}
+use Rattle.std.proofs.Common.{◌≡◌, ℕ, suc, ◌+◌, ◌/◌, ◌%◌, Bool, true, false, cond, eqb, List, [], ◌∷◌, ◌++◌, length, Ok, Err, sym, refl, ap, ◌∙◌, arith}
+use Rattle.std.proofs.lemmas.List.{append-nil, append_assoc, length_push}
+use Rattle.std.proofs.lemmas.Bool.{and_parts, and_from, eqb-true, ne_eqb, eq-eqb, ltb-true, lt-ltb, cond-true, cond-false}
 use Rattle.body.specs.Words.{in_order, is_word}
-use Rattle.body.specs.declared.WireFault.{WireFault}
-use Rattle.wire.specs.Bytes.{word_bytes, word_of, words_bytes}
+use Rattle.wire.specs.Bytes.{word_of, words_bytes}
 use Rattle.wire.specs.Reading.{words_on, stopped, unfit_word}
 use Rattle.wire.proofs.WordBytes.{Bytes, word_again, bytes_again, word_small}
 

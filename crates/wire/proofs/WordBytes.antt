@@ -1,9 +1,9 @@
 -- A word and its four bytes give each other.
-use Rattle.std.proofs.Common.{◌≡◌, ℕ, ◌+◌, ◌*◌, ◌/◌, ◌%◌, ◌<◌, ◌≤◌, List, [], ◌∷◌, ◌++◌, length, get_or, sym, refl, ap, ◌∙◌, mod-eq_of_lt, arith}
+use Rattle.std.proofs.Common.{◌≡◌, ℕ, ◌+◌, ◌*◌, ◌/◌, ◌%◌, ◌<◌, List, [], ◌∷◌, get_or, refl, ap, ◌∙◌, mod-eq_of_lt, arith}
 use native.Mathlib.Nat.{div-div-eq-div-mul}
 use lib.Arith.{digits_div, digits_mod}
 use Rattle.std.proofs.lemmas.Nat.{div-add-mod', div_below}
-use Rattle.wire.specs.Bytes.{word_bytes, word_of, words_bytes}
+use Rattle.wire.specs.Bytes.{word_bytes, word_of}
 
 -- numbers of 8 bits
 abbrev pub Bytes : List ℕ → Type 0

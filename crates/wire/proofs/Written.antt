@@ -1,7 +1,6 @@
 -- Words one after the other into the front of a buffer.
 use Rattle.std.proofs.Common.{◌≡◌, ℕ, ◌+◌, ◌*◌, ◌<◌, ◌≤◌, Bool, true, false, cond, List, [], ◌∷◌, ◌++◌, length, get_or, take, drop, Ok, Err, Result, sym, refl, ap, ◌∙◌, ap₂, arith}
-use Rattle.std.proofs.lemmas.List.{append-nil, append_assoc, length-append, take_at, drop-drop, drop-append-le, drop_at, take_more, length-take-le, take_all}
-use Rattle.body.specs.declared.WireFault.{WireFault}
+use Rattle.std.proofs.lemmas.List.{append_assoc, take_at, drop-drop, drop_at, take_more, length-take-le, take_all}
 use Rattle.wire.specs.Writing.{holds, too_short, write_answer, write_after}
 use Rattle.wire.specs.Bytes.{word_bytes, words_bytes}
 

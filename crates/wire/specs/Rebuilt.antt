@@ -3,7 +3,7 @@ use Rattle.std.specs.Prelude.{ℕ, List, [], ◌∷◌, Some, None, Option}
 use Rattle.frame.specs.Rows.{with_body, frame_with}
 use Rattle.frame.specs.declared.Frame.{Frame}
 use Rattle.frame.specs.declared.Content.{Content}
-use Rattle.frame.specs.declared.Content.TheVariants.{Data, Up, Down, Ticket, Reassign, Clock}
+use Rattle.frame.specs.declared.Content.TheVariants.{Up, Down, Ticket, Reassign, Clock}
 use Rattle.frame.specs.declared.FrameKind.{FrameKind}
 use Rattle.frame.specs.declared.FrameKind.TheVariants as kinds
 

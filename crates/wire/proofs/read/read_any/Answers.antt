@@ -1,4 +1,4 @@
-use Rattle.std.proofs.Common.{◌≡◌, sym, ap, ◌∙◌}
+use Rattle.std.proofs.Common.{sym, ap, ◌∙◌}
 use Rattle.frame.specs.Kinds.{kind_named}
 use Rattle.wire.proofs.Readings.{reads_rest, word_found}
 use Rattle.wire.proofs.read.read_any.Goals as goal

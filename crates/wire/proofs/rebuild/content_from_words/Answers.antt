@@ -1,9 +1,9 @@
-use Rattle.std.proofs.Common.{◌≡◌, ◌≤◌, length, get_or, Some, None, sym, ap, ◌∙◌, arith}
+use Rattle.std.proofs.Common.{◌≤◌, length, get_or, sym, ap, ◌∙◌, arith}
 use Rattle.std.proofs.lemmas.Bool.{ltb-false}
 use Rattle.frame.specs.Rows.{with_body}
 use Rattle.frame.specs.declared.FrameKind.TheVariants.{Data}
 use Rattle.wire.specs.Rebuilt.{content_rebuilt}
-use Rattle.wire.proofs.Fronts.{three_first, behind}
+use Rattle.wire.proofs.Fronts.{three_first}
 use Rattle.wire.proofs.rebuild.content_from_words.Goals as goal
 
 -- the body's answer, under the numbers before it

@@ -1,7 +1,7 @@
-use Rattle.std.proofs.Common.{◌≡◌, ◌+◌, ◌*◌, ◌<◌, ◌++◌, length, take, drop, sym, refl, ap, ◌∙◌, ap₂, arith}
+use Rattle.std.proofs.Common.{◌≡◌, ◌+◌, ◌*◌, ◌<◌, ◌++◌, length, take, drop, sym, refl, ◌∙◌, ap₂, arith}
 use Rattle.wire.specs.Bytes.{word_bytes}
 use Rattle.wire.specs.Layout.{frame_words}
-use Rattle.wire.proofs.Written.{front, front_none, front_more, front_all, length_words_bytes}
+use Rattle.wire.proofs.Written.{front_none, front_more, front_all, length_words_bytes}
 use Rattle.wire.proofs.write.put_words.Goals as goal
 
 pub loop-i-init : goal.loop-i-init

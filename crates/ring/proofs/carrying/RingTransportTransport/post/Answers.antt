@@ -9,7 +9,7 @@ use Rattle.ring.proofs.carrying.RingTransportTransport.post.Goals as goal
 pub returns-then-posts_left-eq0 : goal.returns-then-posts_left-eq0
 returns-then-posts_left-eq0 g c =
     let t = c.args.self.now in
-    let m = ring_meaning g.row.B-Body.remade t in
+    let m = ring_meaning g.B.Body.remade t in
     let full : accepts m c.args.sender.value ≡ false =
     accepts_spare m c.args.sender.value t.limit_ok ∙ ap (ltb 0) (sym c.posts_left.ensures ∙ c.if-posts_left-eq0.true) in
     record {
@@ -20,7 +20,7 @@ returns-then-posts_left-eq0 g c =
 pub push_all-requires : goal.push_all-requires
 push_all-requires g c =
     let t = c.args.self.now in
-    let m = ring_meaning g.row.B-Body.remade t in
+    let m = ring_meaning g.B.Body.remade t in
     let some : 0 < c.posts_left.result = omega arith in
     accepts_spare m c.args.sender.value t.limit_ok ∙
     (ap (ltb 0) (sym c.posts_left.ensures) ∙ lt-ltb 0 c.posts_left.result some)
@@ -28,7 +28,7 @@ push_all-requires g c =
 pub returns : goal.returns
 returns g c =
     let t = c.args.self.now in
-    let m = ring_meaning g.row.B-Body.remade t in
+    let m = ring_meaning g.B.Body.remade t in
     let some : 0 < c.posts_left.result = omega arith in
     let fits : accepts m c.args.sender.value ≡ true =
     accepts_spare m c.args.sender.value t.limit_ok ∙

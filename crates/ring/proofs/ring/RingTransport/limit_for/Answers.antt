@@ -3,7 +3,7 @@ use Rattle.ring.proofs.Makes.{square_pos, fits_cells}
 use Rattle.ring.proofs.ring.RingTransport.limit_for.Goals as goal
 
 pub nonzero_div-result : goal.nonzero_div-result
-nonzero_div-result g c = square_pos c.args.n c.requires.0
+nonzero_div-result g c = square_pos c.args.n c.requires.at_least_two
 
 pub returns : goal.returns
 returns g c =

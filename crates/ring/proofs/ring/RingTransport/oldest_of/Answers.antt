@@ -28,7 +28,7 @@ returns g c =
     let l : at < vec_len t.cells = let q = c.cell_index-at.ensures in let m = t.cells_ok in omega arith in
     let v = get_or_read_under xs at (vec_len t.cells) c.index.result.now blank c.index.ensures l t.cells.ok.0 in
     ap Some
-    (c.stored_frame.ensures ∙ ap (stored g.row.B-Body.remade)
+    (c.stored_frame.ensures ∙ ap (stored g.B.Body.remade)
     (v ∙ ap (λ x. get_or xs x blank) (c.cell_index-at.ensures ∙ ap (λ x. cell t.size t.limit s d (get_or t.starts x 0)) e))) ∙
-    sym (ring_first g.row.B-Body.remade t.size t.limit t.flags t.starts t.helds xs s d reach (t.starts_ok (s * 8 + d))
+    sym (ring_first g.B.Body.remade t.size t.limit t.flags t.starts t.helds xs s d reach (t.starts_ok (s * 8 + d))
     (λ z. c.if-self-pair-eq0.false (ap (λ x. get_or t.helds x 0) e ∙ z)))

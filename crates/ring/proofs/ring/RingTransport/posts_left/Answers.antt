@@ -10,12 +10,12 @@ loop-receiver-preserved g c =
     let t = c.args.self.now in
     c.min-least.ensures ∙
     (ap₂ min c.room_left.ensures c.loop-receiver.invariant ∙
-    sym (least_below_more c.loop-receiver.receiver (room (ring_meaning g.row.B-Body.remade t) c.args.sender) t.limit))
+    sym (least_below_more c.loop-receiver.receiver (room (ring_meaning g.B.Body.remade t) c.args.sender) t.limit))
 
 pub returns : goal.returns
 returns g c =
     let t = c.args.self.now in
     let e : c.loop-receiver.receiver ≡ t.size = omega arith in
     c.loop-receiver.invariant ∙
-    (ap (λ k. least_below k (room (ring_meaning g.row.B-Body.remade t) c.args.sender) t.limit) e ∙
+    (ap (λ k. least_below k (room (ring_meaning g.B.Body.remade t) c.args.sender) t.limit) e ∙
     sym (cond-true _ _ _ (lt-ltb c.args.sender t.size c.if-sender-self.false)))

@@ -11,11 +11,11 @@ use Rattle.ring.proofs.ring.RingTransport.push_all.Goals.{then-hears, else-hears
 
 pub loop-receiver-init : goal.loop-receiver-init
 loop-receiver-init g c =
-    sym (part_none (ring_meaning g.row.B-Body.remade c.args.self.now) (stored g.row.B-Body.remade c.to_row-row.result))
+    sym (part_none (ring_meaning g.B.Body.remade c.args.self.now) (stored g.B.Body.remade c.to_row-row.result))
 
 pub push-requires : goal.push-requires
 push-requires g c =
-    let rem = g.row.B-Body.remade in
+    let rem = g.B.Body.remade in
     let u = c.loop-receiver.self in
     let m = ring_meaning rem c.args.self.now in
     let f = c.args.frame in
@@ -29,11 +29,11 @@ push-requires g c =
     let q = hears_reaches rem u.size u.limit u.flags u.starts u.helds (vec_items u.cells) s j p h in
     let r = part_room m f j (ring_meaning rem u) i c.loop-receiver-test.true h c.requires in
     let l = waits_length rem u.size u.limit u.flags u.starts u.helds (vec_items u.cells) s j q in
-    (q, subst (λ x. x < u.limit) l r)
+    record { reached = q; has_room = subst (λ x. x < u.limit) l r }
 
 pub loop-receiver-preserved : goal.loop-receiver-preserved
 loop-receiver-preserved g c =
-    let rem = g.row.B-Body.remade in
+    let rem = g.B.Body.remade in
     let m = ring_meaning rem c.args.self.now in
     let f = stored rem c.to_row-row.result in
     let s = c.args.frame.sender.value in
@@ -55,8 +55,8 @@ loop-receiver-preserved g c =
 
 pub returns : goal.returns
 returns g c =
-    let m = ring_meaning g.row.B-Body.remade c.args.self.now in
-    let f = stored g.row.B-Body.remade c.to_row-row.result in
+    let m = ring_meaning g.B.Body.remade c.args.self.now in
+    let f = stored g.B.Body.remade c.to_row-row.result in
     let e : c.loop-receiver.receiver ≡ c.args.self.now.size = omega arith in
     c.loop-receiver.invariant ∙
     (ap (part_posted m f) e ∙ (part_all m f ∙ ap (after_post m) (ap or_idle c.to_row-row.ensures.again)))

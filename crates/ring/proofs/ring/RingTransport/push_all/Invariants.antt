@@ -6,5 +6,5 @@ use Rattle.ring.proofs.ring.RingTransport.push_all.Given as goal
 
 abbrev pub invariant-loop-receiver : goal.invariant-loop-receiver
 invariant-loop-receiver g l =
-    ring_meaning g.row.B-Body.remade l.self ≡
-    part_posted (ring_meaning g.row.B-Body.remade l.initial.self) (stored g.row.B-Body.remade l.row) l.receiver
+    ring_meaning g.B.Body.remade l.self ≡
+    part_posted (ring_meaning g.B.Body.remade l.initial.self) (stored g.B.Body.remade l.row) l.receiver

@@ -9,4 +9,4 @@ returns g c =
     let l : length t.flags ≡ 8 = search rules in
     let z = t.size_ok in
     let p = c.if-printer-self.false in
-    log_closed (stored g.row.B-Body.remade) t.size t.limit t.flags t.ends t.behinds (vec_items t.cells) c.args.printer p (omega arith)
+    log_closed (stored g.B.Body.remade) t.size t.limit t.flags t.ends t.behinds (vec_items t.cells) c.args.printer p (omega arith)

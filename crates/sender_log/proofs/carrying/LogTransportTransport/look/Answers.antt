@@ -9,7 +9,7 @@ use Rattle.sender_log.proofs.carrying.LogTransportTransport.look.Goals as goal
 pub returns : goal.returns
 returns g c =
     let t = c.args.self.now in
-    let f = stored g.row.B-Body.remade in
+    let f = stored g.B.Body.remade in
     let xs = vec_items t.cells in
     let s = c.args.sender in
     let d = c.args.receiver in

@@ -9,5 +9,5 @@ returns-then-not-has_room g c =
     let refused = sym c.if-not-has_room.ensures in
     record {
       answer = sym (cond-false _ _ _ refused);
-      after = post_refused (log_meaning g.row.B-Body.remade c.args.self.now) (record { sender = c.args.sender; payload = c.args.payload }) refused;
+      after = post_refused (log_meaning g.B.Body.remade c.args.self.now) (record { sender = c.args.sender; payload = c.args.payload }) refused;
     }

@@ -10,7 +10,7 @@ use Rattle.sender_log.proofs.carrying.LogTransportTransport.take.Goals as goal
 
 pub returns-then-waits-eq0 : goal.returns-then-waits-eq0
 returns-then-waits-eq0 g c =
-    take_nothing (log_meaning g.row.B-Body.remade c.args.self.now) c.args.sender c.args.receiver
+    take_nothing (log_meaning g.B.Body.remade c.args.self.now) c.args.sender c.args.receiver
     (sym c.waits.ensures.value ∙ c.if-waits-eq0.true)
 
 pub invariant_of-self : goal.invariant_of-self
@@ -19,12 +19,18 @@ invariant_of-self g c =
     let k = c.args.sender * 8 + c.args.receiver in
     let h = t.behinds_ok k in
     let a = after_set (λ x. x ≤ t.limit) t.behinds k (get_or t.behinds k 0 - 1) (omega arith) t.behinds_ok in
-    (t.size_ok, (t.limit_ok, (t.cells_ok, (t.ends_ok, (subst (λ xs. (j : ℕ) → get_or xs j 0 ≤ t.limit) (sym c.move_on.ensures) a, tt)))))
+    record {
+      size_ok = t.size_ok;
+      limit_ok = t.limit_ok;
+      cells_ok = t.cells_ok;
+      ends_ok = t.ends_ok;
+      behinds_ok = subst (λ xs. (j : ℕ) → get_or xs j 0 ≤ t.limit) (sym c.move_on.ensures) a;
+    }
 
 pub returns : goal.returns
 returns g c =
     let t = c.args.self.now in
-    let f = stored g.row.B-Body.remade in
+    let f = stored g.B.Body.remade in
     let s = c.args.sender in
     let d = c.args.receiver in
     let l : length t.behinds ≡ 64 = search rules in

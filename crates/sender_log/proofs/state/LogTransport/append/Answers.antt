@@ -10,20 +10,26 @@ use Rattle.sender_log.proofs.state.LogTransport.append.Goals as goal
 pub place_after-requires : goal.place_after-requires
 place_after-requires g c =
     let u = c.fall_behind.new.self in
-    (u.ends_ok c.args.frame.sender.value, u.limit_ok)
+    record { start_lt_limit = u.ends_ok c.args.frame.sender.value; k_le_limit = u.limit_ok }
 
 pub invariant_of-self : goal.invariant_of-self
 invariant_of-self g c =
     let u = c.fall_behind.new.self in
     let s = c.args.frame.sender.value in
-    (u.size_ok, (u.limit_ok, (u.cells_ok, (after_set (λ x. x < u.limit) u.ends s _ c.place_after.ensures.within u.ends_ok, (u.behinds_ok, tt)))))
+    record {
+      size_ok = u.size_ok;
+      limit_ok = u.limit_ok;
+      cells_ok = u.cells_ok;
+      ends_ok = after_set (λ x. x < u.limit) u.ends s _ c.place_after.ensures.within u.ends_ok;
+      behinds_ok = u.behinds_ok;
+    }
 
 pub returns : goal.returns
 returns g c =
     let t = c.args.self.now in
     let u = c.fall_behind.new.self in
     let s = c.args.frame.sender.value in
-    let f = stored g.row.B-Body.remade in
+    let f = stored g.B.Body.remade in
     let e = c.fall_behind.ensures in
     let row = c.to_row.result in
     let le : length t.ends ≡ 8 = search rules in

@@ -6,11 +6,17 @@ use Rattle.sender_log.proofs.state.LogTransport.empty.Goals as goal
 
 pub invariant_of-result : goal.invariant_of-result
 invariant_of-result g c =
-    let l = c.requires.1 in
-    (c.requires.0, (l, (c.requires.2, ((λ k. let e = zeros 8 k in omega arith), ((λ k. let e = zeros 64 k in omega arith), tt)))))
+    let l = c.requires.le_limit in
+    record {
+      size_ok = c.requires.n_bound;
+      limit_ok = l;
+      cells_ok = c.requires.limit_in_bounds;
+      ends_ok = λ k. let e = zeros 8 k in omega arith;
+      behinds_ok = λ k. let e = zeros 64 k in omega arith;
+    }
 
 pub returns : goal.returns
 returns g c = record {
   cells = refl;
-  meaning = made_fresh (stored g.row.B-Body.remade) (vec_items c.args.cells) c.args.n c.args.limit c.requires.0;
+  meaning = made_fresh (stored g.B.Body.remade) (vec_items c.args.cells) c.args.n c.args.limit c.requires.n_bound;
 }

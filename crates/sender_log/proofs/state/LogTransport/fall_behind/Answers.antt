@@ -11,15 +11,21 @@ use Rattle.sender_log.proofs.state.LogTransport.fall_behind.Goals.{then-hears_fr
 
 pub overflow_add-self-then-hears_from : goal.overflow_add-self-then-hears_from
 overflow_add-self-then-hears_from g c =
-    let r = room_next g.row.B-Body.remade c.args.self.now c.loop-receiver.self c.args.sender c.loop-receiver.receiver c.loop-receiver.invariant c.requires (sym c.if-hears_from.ensures) in
+    let r = room_next g.B.Body.remade c.args.self.now c.loop-receiver.self c.args.sender c.loop-receiver.receiver c.loop-receiver.invariant c.requires (sym c.if-hears_from.ensures) in
     search rules
 
 pub invariant_of-self : goal.invariant_of-self
 invariant_of-self g c =
     let t = c.loop-receiver.self in
     let k = c.args.sender * 8 + c.loop-receiver.receiver in
-    let r = room_next g.row.B-Body.remade c.args.self.now t c.args.sender c.loop-receiver.receiver c.loop-receiver.invariant c.requires (sym c.if-hears_from.ensures) in
-    (t.size_ok, (t.limit_ok, (t.cells_ok, (t.ends_ok, (after_set (λ x. x ≤ t.limit) t.behinds k _ (omega arith) t.behinds_ok, tt)))))
+    let r = room_next g.B.Body.remade c.args.self.now t c.args.sender c.loop-receiver.receiver c.loop-receiver.invariant c.requires (sym c.if-hears_from.ensures) in
+    record {
+      size_ok = t.size_ok;
+      limit_ok = t.limit_ok;
+      cells_ok = t.cells_ok;
+      ends_ok = t.ends_ok;
+      behinds_ok = after_set (λ x. x ≤ t.limit) t.behinds k _ (omega arith) t.behinds_ok;
+    }
 
 pub loop-receiver-preserved : goal.loop-receiver-preserved
 loop-receiver-preserved g c =
@@ -31,7 +37,7 @@ loop-receiver-preserved g c =
     let z = t.size_ok in
     let l : length t.behinds ≡ 64 = search rules in
     let m = b.pairs in
-    let n = carries_next g.row.B-Body.remade t u s k b c.requires in
+    let n = carries_next g.B.Body.remade t u s k b c.requires in
     elim c.if-hears_from.branch [
       | then-hears_from w ↦
           let v : carries t.size t.flags s k ≡ true = n ∙ (sym c.hears_from.ensures ∙ w.if-hears_from.true) in

@@ -13,7 +13,13 @@ invariant_of-self g c =
     let h = logs_fit n c.len.result in
     let e = c.len.ensures in
     let p : 0 < c.len.result / n = pos_of_ne (c.len.result / n) c.if-limit-eq0.false in
-    (omega arith, (omega arith, (omega arith, ((λ k. let z = zeros 8 k in omega arith), ((λ k. let z = zeros 64 k in omega arith), tt)))))
+    record {
+      size_ok = omega arith;
+      limit_ok = omega arith;
+      cells_ok = omega arith;
+      ends_ok = λ k. let z = zeros 8 k in omega arith;
+      behinds_ok = λ k. let z = zeros 64 k in omega arith;
+    }
   where
     pos_of_ne : (k : ℕ) → (k ≡ 0 → ⊥) → 0 < k
     pos_of_ne k h = omega arith
@@ -25,7 +31,7 @@ returns g c =
     record {
       answer = answer_of n (vec_len c.args.self.now.cells / n) c.if-n-lt2.false c.if-n-gt8.false (λ e. c.if-limit-eq0.false (ap (λ x. x / n) l ∙ e));
       cells = refl;
-      made = λ _. made_fresh (stored g.row.B-Body.remade) (vec_items c.args.self.now.cells) n _ c.if-n-gt8.false ∙ ap (λ x. fresh n (x / n)) l;
+      made = λ _. made_fresh (stored g.B.Body.remade) (vec_items c.args.self.now.cells) n _ c.if-n-gt8.false ∙ ap (λ x. fresh n (x / n)) l;
       kept = λ e r. absurd (let z : ◌≡◌ {A = ℕ} 0 1 = cc in omega arith);
     }
   where

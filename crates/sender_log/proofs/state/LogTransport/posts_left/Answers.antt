@@ -13,7 +13,7 @@ min_right a b h = omega arith
 
 pub loop-receiver-preserved : goal.loop-receiver-preserved
 loop-receiver-preserved g c =
-    let m = log_meaning g.row.B-Body.remade c.args.self.now in
+    let m = log_meaning g.B.Body.remade c.args.self.now in
     let r = room m c.args.sender in
     let k = c.loop-receiver.receiver in
     let step : min c.room-room.result c.loop-receiver.least ≡ least_below _ r m.limit =

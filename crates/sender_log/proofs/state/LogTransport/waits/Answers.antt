@@ -6,7 +6,7 @@ use Rattle.sender_log.proofs.state.LogTransport.waits.Goals as goal
 pub returns : goal.returns
 returns g c =
     let t = c.args.self.now in
-    let f = stored g.row.B-Body.remade in
+    let f = stored g.B.Body.remade in
     let h = carries_heard f t.size t.limit t.flags t.ends t.behinds (vec_items t.cells) c.args.sender c.args.receiver c.if-sender-self.false in
     record {
       value = sym (waits_there f t.size t.limit t.flags t.ends t.behinds (vec_items t.cells) c.args.sender c.args.receiver (h ∙ sym c.if-not-hears_from.ensures));
