@@ -1,8 +1,8 @@
 -- Rows that hold nothing.
-use Rattle.std.proofs.Common.{◌≡◌, ℕ, zero, suc, List, [], get_or, replicate, refl}
+use Rattle.std.proofs.Common.{◌≡◌, ℕ, zero, suc, get_or, replicate, refl}
 use mathlib.Core.Path.{fun_ext}
 use Rattle.backlog.specs.Blanks.{no_held, no_stub, no_message_row, no_ticket_row}
-use Rattle.backlog.specs.Holdings.{Row, message_row, ticket_row, nothing_held}
+use Rattle.backlog.specs.Holdings.{message_row, ticket_row, nothing_held}
 use Rattle.backlog.specs.declared.rows.Held.{Held}
 use Rattle.backlog.specs.declared.rows.MessageRow.{MessageRow}
 use Rattle.backlog.specs.declared.rows.Stub.{Stub}

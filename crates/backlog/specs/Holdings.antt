@@ -1,5 +1,5 @@
 -- What a backlog means: rows of held things as functions from their places.
-use Rattle.std.specs.Prelude.{ℕ, ◌+◌, ◌-◌, ◌%◌, min, Bool, true, cond, ◌&&◌, nat_le, nat_lt, slice_index_or}
+use Rattle.std.specs.Prelude.{ℕ, ◌+◌, ◌-◌, ◌%◌, min, Bool, cond, ◌&&◌, nat_le, nat_lt, slice_index_or}
 use Rattle.frame.specs.declared.RoleNumber.{RoleNumber}
 use Rattle.roles.specs.Functions.{put}
 use Rattle.backlog.specs.Blanks.{no_held, no_message_row, no_stub, no_ticket_row}

@@ -1,5 +1,5 @@
 -- The held tickets: their order, and the first of them.
-use Rattle.std.specs.Prelude.{ℕ, zero, suc, ◌+◌, ◌%◌, Bool, true, false, cond, ◌&&◌, ◌||◌, Some, None, Option, ◌==◌, nat_lt}
+use Rattle.std.specs.Prelude.{ℕ, zero, suc, ◌+◌, ◌%◌, Bool, cond, ◌&&◌, ◌||◌, Some, None, Option, ◌==◌, nat_lt}
 use Rattle.roles.specs.Functions.{any_below}
 use Rattle.backlog.specs.Holdings.{Holding, Row}
 use Rattle.backlog.specs.declared.rows.Stub.{Stub}

@@ -84,7 +84,7 @@ impl Backlog {
 
     pub fn hold_message(&mut self, sender: u32, number: MessageNumber, message: Held)
         requires sender_bound { sender < 8 }
-        requires sender_bound_2 { ((holding_of self.old).messages sender).count < 8 }
+        requires room { ((holding_of self.old).messages sender).count < 8 }
         ensures { holding_of self.new ≡ hold_message (holding_of self.old) sender number.0 message }
     {
         self.messages[sender as usize].store(number, message);
@@ -92,7 +92,7 @@ impl Backlog {
 
     pub fn hold_ticket(&mut self, issuer: u32, stub: Stub)
         requires issuer_bound { issuer < 8 }
-        requires issuer_bound_2 { ((holding_of self.old).tickets issuer).count < 16 }
+        requires room { ((holding_of self.old).tickets issuer).count < 16 }
         ensures { holding_of self.new ≡ hold_ticket (holding_of self.old) issuer stub }
     {
         self.tickets[issuer as usize].store(stub);
@@ -101,8 +101,8 @@ impl Backlog {
 
 // Whether a message of a sender is held, by the rows of all senders.
 fn held_in(rows: &[MessageRow], sender: u32, number: MessageNumber) -> bool
-    requires by_index { (x : ℕ) → (slice_index_or rows.now x no_message_row).count ≤ 8 }
-    requires by_index_2 { (x : ℕ) → (slice_index_or rows.now x no_message_row).passed.0 ≤ 65536 }
+    requires few { (x : ℕ) → (slice_index_or rows.now x no_message_row).count ≤ 8 }
+    requires low { (x : ℕ) → (slice_index_or rows.now x no_message_row).passed.0 ≤ 65536 }
     ensures there { result ≡ true → sender < length rows.now }
     ensures answer { result ≡ is_between (slice_index_or rows.now sender no_message_row).passed.0 ((slice_index_or rows.now sender no_message_row).passed.0 + (slice_index_or rows.now sender no_message_row).count) number.0 }
 {
@@ -200,8 +200,8 @@ impl Backlog {
     pub fn pass_first(&mut self, sender: u32, issuer: u32)
         requires sender_bound { sender < 8 }
         requires issuer_bound { issuer < 8 }
-        requires sender_bound_2 { ((holding_of self.old).messages sender).passed < 65536 }
-        requires issuer_bound_2 { ((holding_of self.old).tickets issuer).passed < 65536 }
+        requires sender_low { ((holding_of self.old).messages sender).passed < 65536 }
+        requires issuer_low { ((holding_of self.old).tickets issuer).passed < 65536 }
         ensures { holding_of self.new ≡ pass_first (holding_of self.old) sender issuer }
     {
         self.messages[sender as usize].pop();

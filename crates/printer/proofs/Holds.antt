@@ -1,12 +1,12 @@
 -- The bounds that holding keeps.
-use Rattle.std.proofs.Common.{◌≡◌, ℕ, ◌+◌, ◌<◌, ◌≤◌, true, List, set, sym, refl, ap, ◌∙◌, subst, arith}
+use Rattle.std.proofs.Common.{◌≡◌, ℕ, ◌<◌, ◌≤◌, List, set, sym, ap, ◌∙◌, subst, arith}
 use Rattle.std.proofs.lemmas.Bool.{false≢true}
 use Rattle.std.proofs.lemmas.Bool.Decides.{nat_tests}
 use Rattle.frame.specs.declared.MessageNumber.{MessageNumber}
 use Rattle.roles.specs.Functions.{put}
 use Rattle.roles.specs.declared.RecordKind.{RecordKind}
-use Rattle.roles.proofs.Functions.{put_all, put_same, put_other}
-use Rattle.backlog.specs.Holdings.{Holding, Row, stored, hold_message, hold_ticket}
+use Rattle.roles.proofs.Functions.{put_all, put_same}
+use Rattle.backlog.specs.Holdings.{Holding, Row, stored}
 use Rattle.backlog.specs.declared.Held.{Held}
 use Rattle.table.specs.Printers.{Printer}
 use Rattle.table.specs.declared.Duty.{Duty}

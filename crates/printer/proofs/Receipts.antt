@@ -1,11 +1,9 @@
 -- What a frame leaves alone: what was passed on, and the own messages of who takes it.
-use Rattle.std.proofs.Common.{◌≡◌, ℕ, ◌≤◌, Bool, sym, refl, subst, arith}
-use Rattle.std.proofs.lemmas.Bool.Decides.{nat_tests}
+use Rattle.std.proofs.Common.{◌≡◌, ℕ, ◌≤◌, sym, refl, subst}
 use Rattle.frame.specs.declared.Content.{Content}
 use Rattle.frame.specs.declared.Content.TheVariants.{Data, Up, Down, Ticket, Reassign, Clock}
 use Rattle.frame.specs.declared.Frame.{Frame}
 use Rattle.frame.specs.declared.TicketNumber.{TicketNumber}
-use Rattle.roles.specs.Functions.{put}
 use Rattle.roles.proofs.Functions.{put_all, put_other}
 use Rattle.backlog.specs.Holdings.{Holding, Row}
 use Rattle.backlog.specs.declared.Held.{Held}

@@ -1,10 +1,10 @@
 -- Transmitting and taking keep the laws of steps.
-use Rattle.std.proofs.Common.{◌≡◌, ℕ, ◌+◌, ◌≤◌, max, Bool, cond, Some, None, Option, sym, refl, ap, ◌∙◌, subst, arith}
+use Rattle.std.proofs.Common.{◌≡◌, ℕ, ◌+◌, ◌≤◌, Bool, cond, Some, None, Option, sym, subst, arith}
 use Rattle.std.proofs.lemmas.Bool.{cond_both}
 use Rattle.frame.specs.declared.Frame.{Frame}
 use Rattle.table.specs.Desks.{Desk, desk, pass_all}
 use Rattle.table.specs.Given.{Given}
-use Rattle.table.specs.Printers.{Printer, Hearing}
+use Rattle.table.specs.Printers.{Hearing}
 use Rattle.table.specs.declared.Due.{Due}
 use Rattle.table.specs.declared.Due.TheVariants.{Reassignment, Ticket, Clock}
 use Rattle.table.specs.declared.Heed.TheVariants as heed

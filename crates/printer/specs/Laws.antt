@@ -1,5 +1,5 @@
 -- What every step keeps.
-use Rattle.std.specs.Prelude.{◌≡◌, ℕ, ◌≤◌}
+use Rattle.std.specs.Prelude.{ℕ, ◌≤◌}
 use Rattle.table.specs.Desks.{Desk}
 use Rattle.table.specs.Given.{Given}
 

@@ -1,5 +1,5 @@
 -- Making messages, and changing the sequencer.
-use Rattle.std.specs.Prelude.{ℕ, ◌+◌, Bool, true, false, not, ◌&&◌, List, [], ◌∷◌, Ok, Option, nat_le, nat_lt}
+use Rattle.std.specs.Prelude.{ℕ, ◌+◌, Bool, true, false, not, ◌&&◌, [], ◌∷◌, Ok, Option, nat_le, nat_lt}
 use Rattle.frame.specs.declared.Content.{Content}
 use Rattle.frame.specs.declared.Content.TheVariants as contents
 use Rattle.frame.specs.declared.MessageNumber.{MessageNumber}
@@ -9,7 +9,6 @@ use Rattle.roles.specs.declared.RecordKind.{RecordKind}
 use Rattle.roles.specs.declared.RecordKind.TheVariants.{Data, Up, Down, Gone}
 use Rattle.backlog.specs.Holdings.{hold_message}
 use Rattle.table.specs.Printers.{Printer}
-use Rattle.table.specs.declared.Duty.{Duty}
 use Rattle.table.specs.declared.PrinterState.{PrinterState}
 use Rattle.table.specs.declared.PrinterState.TheVariants.{Active, Passive, Rising, Falling}
 use Rattle.printer.specs.Answers.{Answer, first_refusal, unless}

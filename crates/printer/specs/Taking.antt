@@ -1,10 +1,8 @@
 -- Taking a frame.
-use Rattle.std.specs.Prelude.{ℕ, ◌+◌, max, Bool, true, false, cond, ◌&&◌, ◌||◌, List, [], ◌∷◌, length, is_some, Some, None, Ok, Err, Option, nat_le, nat_lt, slice_set}
-use Rattle.frame.specs.declared.Content.{Content}
+use Rattle.std.specs.Prelude.{ℕ, ◌+◌, max, Bool, cond, ◌&&◌, ◌||◌, List, [], ◌∷◌, length, is_some, Some, None, Ok, Err, Option, nat_le, nat_lt, slice_set}
 use Rattle.frame.specs.declared.Frame.{Frame}
 use Rattle.frame.specs.declared.MessageNumber.{MessageNumber}
-use Rattle.transport.specs.Nets.{Net, oldest, after_take}
-use Rattle.transport.specs.declared.TransportFault.{TransportFault}
+use Rattle.transport.specs.Nets.{Net, oldest}
 use Rattle.transport.specs.declared.TransportRefusal.TheVariants.{NothingWaits}
 use Rattle.roles.specs.Functions.{put}
 use Rattle.backlog.specs.Holdings.{Holding, hold_message, hold_ticket, reassigned}

@@ -1,5 +1,5 @@
 -- Transmitting the first frame due.
-use Rattle.std.specs.Prelude.{ℕ, ◌+◌, Bool, true, false, cond, not, ◌&&◌, List, [], ◌∷◌, length, is_some, Some, None, Err, Option, nat_le}
+use Rattle.std.specs.Prelude.{ℕ, ◌+◌, Bool, true, false, cond, not, ◌&&◌, [], ◌∷◌, is_some, Some, None, Err, Option, nat_le}
 use Rattle.frame.specs.declared.Content.{Content}
 use Rattle.frame.specs.declared.Content.TheVariants as contents
 use Rattle.frame.specs.declared.Frame.{Frame}

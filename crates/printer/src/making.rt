@@ -112,12 +112,12 @@ fn make<T: Transport>(
     payload: Payload<T::Body>,
     transport: &mut T,
 ) -> Result<(), PrinterFault>
-    requires clock_value { payload.clock ≡ table.old.clocks.own }
-    requires table_bound { undelivered table.old.me.value (printer_of table.old) < 7 }
-    ensures answer { result ≡ posting_answer (meaning transport.old) table.old.me.value }
+    requires own_clock { payload.clock ≡ table.old.clocks.own }
+    requires few { undelivered table.old.me.value (printer_of table.old) < 7 }
+    ensures answer { result ≡ posting_answer (T.meaning transport.old) table.old.me.value }
     ensures table { printer_of table.new ≡ (if is_ok result then made kind table.old.me.value (printer_of table.old) else printer_of table.old) }
     ensures me { table.new.me ≡ table.old.me }
-    ensures net { meaning transport.new ≡ (if is_ok result then after_post (meaning transport.old) (frame_from table.old.me.value payload.clock payload.content) else meaning transport.old) }
+    ensures net { T.meaning transport.new ≡ (if is_ok result then after_post (T.meaning transport.old) (frame_from table.old.me.value payload.clock payload.content) else T.meaning transport.old) }
 {
     post(table, payload, transport)?;
     hold_own(table, kind);
@@ -132,11 +132,11 @@ impl Printer {
         shelf: &mut [<T::Body as Body>::Row],
         transport: &mut T,
     ) -> Result<(), PrinterFault>
-        ensures answer { result ≡ make_answer Data (number_of self.old) (kept_by self.old) (meaning transport.old) }
+        ensures answer { result ≡ make_answer Data (number_of self.old) (kept_by self.old) (T.meaning transport.old) }
         ensures table { kept_by self.new ≡ (if is_ok result then made Data (number_of self.old) (kept_by self.old) else kept_by self.old) }
         ensures number { number_of self.new ≡ number_of self.old }
         ensures shelf { shelf.new ≡ (if is_ok result then slice_set shelf.old (shelf_place (number_of self.old) (next_number (number_of self.old) (kept_by self.old)).0) (T.Body.Body.row body) else shelf.old) }
-        ensures net { meaning transport.new ≡ (if is_ok result then after_post (meaning transport.old) (own_frame (number_of self.old) (kept_by self.old) (data_content (number_of self.old) (kept_by self.old) body)) else meaning transport.old) }
+        ensures net { T.meaning transport.new ≡ (if is_ok result then after_post (T.meaning transport.old) (own_frame (number_of self.old) (kept_by self.old) (data_content (number_of self.old) (kept_by self.old) body)) else T.meaning transport.old) }
     {
         may_make(&self.table, RecordKind::Data)?;
         let number = next_number(&self.table);
@@ -149,10 +149,10 @@ impl Printer {
 
     // Asks to become active.
     pub fn raise<T: Transport>(&mut self, transport: &mut T) -> Result<(), PrinterFault>
-        ensures answer { result ≡ make_answer Up (number_of self.old) (kept_by self.old) (meaning transport.old) }
+        ensures answer { result ≡ make_answer Up (number_of self.old) (kept_by self.old) (T.meaning transport.old) }
         ensures table { kept_by self.new ≡ (if is_ok result then made Up (number_of self.old) (kept_by self.old) else kept_by self.old) }
         ensures number { number_of self.new ≡ number_of self.old }
-        ensures net { meaning transport.new ≡ (if is_ok result then after_post (meaning transport.old) (own_frame (number_of self.old) (kept_by self.old) (up_content (number_of self.old) (kept_by self.old))) else meaning transport.old) }
+        ensures net { T.meaning transport.new ≡ (if is_ok result then after_post (T.meaning transport.old) (own_frame (number_of self.old) (kept_by self.old) (up_content (number_of self.old) (kept_by self.old))) else T.meaning transport.old) }
     {
         may_make(&self.table, RecordKind::Up)?;
         let number = next_number(&self.table);
@@ -163,10 +163,10 @@ impl Printer {
 
     // Asks to become passive.
     pub fn lower<T: Transport>(&mut self, transport: &mut T) -> Result<(), PrinterFault>
-        ensures answer { result ≡ make_answer Down (number_of self.old) (kept_by self.old) (meaning transport.old) }
+        ensures answer { result ≡ make_answer Down (number_of self.old) (kept_by self.old) (T.meaning transport.old) }
         ensures table { kept_by self.new ≡ (if is_ok result then made Down (number_of self.old) (kept_by self.old) else kept_by self.old) }
         ensures number { number_of self.new ≡ number_of self.old }
-        ensures net { meaning transport.new ≡ (if is_ok result then after_post (meaning transport.old) (own_frame (number_of self.old) (kept_by self.old) (down_content (number_of self.old) (kept_by self.old))) else meaning transport.old) }
+        ensures net { T.meaning transport.new ≡ (if is_ok result then after_post (T.meaning transport.old) (own_frame (number_of self.old) (kept_by self.old) (down_content (number_of self.old) (kept_by self.old))) else T.meaning transport.old) }
     {
         may_make(&self.table, RecordKind::Down)?;
         let number = next_number(&self.table);

@@ -34,7 +34,7 @@ impl Printer {
         requires leaver_bound { leaver < 8 }
         requires delays_len_bound { length delays.now < 9 }
         requires list_len_bound { length list.old ≤ 65536 }
-        requires self_in_bounds { (kept_by self.old).length + tickets_held (length delays.now) (kept_by self.old).holding < length list.old }
+        requires room { (kept_by self.old).length + tickets_held (length delays.now) (kept_by self.old).holding < length list.old }
         ensures after { desk_of self.new list.new shelf.now ≡ left_by (length delays.now) (delay_in delays.now) (number_of self.old) (desk_of self.old list.old shelf.now) leaver }
         ensures number { number_of self.new ≡ number_of self.old }
         ensures given { Given (length delays.now) (desk_of self.old list.old shelf.now) → Given (length delays.now) (desk_of self.new list.new shelf.now) }

@@ -12,7 +12,7 @@ pub(crate) fn data_payload<B: Copy>(
     role: RoleNumber,
     body: B,
 ) -> Payload<B>
-    requires le_number { 1 ≤ number.0 }
+    requires numbered { 1 ≤ number.0 }
     requires sequencer_bound { sequencer ≤ 7 }
     ensures { Holds result clock (Data number sequencer role body) }
 {
@@ -33,7 +33,7 @@ pub(crate) fn up_payload<B: Copy>(
     sequencer: u32,
     role: RoleNumber,
 ) -> Payload<B>
-    requires le_number { 1 ≤ number.0 }
+    requires numbered { 1 ≤ number.0 }
     requires sequencer_bound { sequencer ≤ 7 }
     ensures { Holds result clock (Up number sequencer role) }
 {
@@ -53,7 +53,7 @@ pub(crate) fn down_payload<B: Copy>(
     sequencer: u32,
     role: RoleNumber,
 ) -> Payload<B>
-    requires le_number { 1 ≤ number.0 }
+    requires numbered { 1 ≤ number.0 }
     requires sequencer_bound { sequencer ≤ 7 }
     ensures { Holds result clock (Down number sequencer role) }
 {
@@ -72,9 +72,9 @@ pub(crate) fn ticket_payload<B: Copy>(
     of: u32,
     number: MessageNumber,
 ) -> Payload<B>
-    requires le_clock { 1 ≤ clock.0 }
+    requires clocked { 1 ≤ clock.0 }
     requires of_bound { of < 8 }
-    requires le_number { 1 ≤ number.0 }
+    requires numbered { 1 ≤ number.0 }
     ensures { Holds result clock (Ticket of number) }
 {
     Payload {
@@ -90,8 +90,8 @@ pub(crate) fn reassign_payload<B: Copy>(
     sequencer: u32,
     role: RoleNumber,
 ) -> Payload<B>
-    requires last_lt_sent { last.0 < sent.0 }
-    requires sent_bound { sent.0 ≤ last.0 + 7 }
+    requires some { last.0 < sent.0 }
+    requires few { sent.0 ≤ last.0 + 7 }
     requires sequencer_bound { sequencer ≤ 7 }
     ensures { Holds result clock (Reassign last sent sequencer role) }
 {

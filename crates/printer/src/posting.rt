@@ -15,10 +15,10 @@ pub(crate) fn post<T: Transport>(
     payload: Payload<T::Body>,
     transport: &mut T,
 ) -> Result<(), PrinterFault>
-    ensures answer { result ≡ posting_answer (meaning transport.old) table.old.me.value }
+    ensures answer { result ≡ posting_answer (T.meaning transport.old) table.old.me.value }
     ensures table { printer_of table.new ≡ (if is_ok result then posted_at payload.clock.0 (printer_of table.old) else printer_of table.old) }
     ensures me { table.new.me ≡ table.old.me }
-    ensures net { meaning transport.new ≡ (if is_ok result then after_post (meaning transport.old) (frame_from table.old.me.value payload.clock payload.content) else meaning transport.old) }
+    ensures net { T.meaning transport.new ≡ (if is_ok result then after_post (T.meaning transport.old) (frame_from table.old.me.value payload.clock payload.content) else T.meaning transport.old) }
 {
     transport.post(table.me, payload)?;
     table.clocks.own = payload.clock;

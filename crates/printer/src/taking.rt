@@ -44,7 +44,7 @@ fn hear_clock(clocks: &mut Clocks, from: u32, clock: TicketNumber)
 // Holds what a frame brings.
 fn hold_frame<B: Body>(backlog: &mut Backlog, from: u32, frame: Frame<B>)
     requires from_bound { from < 8 }
-    requires frame_value { lacks_room from (holding_of backlog.old) frame ≡ false }
+    requires room { lacks_room from (holding_of backlog.old) frame ≡ false }
     ensures { holding_of backlog.new ≡ holding_after from frame (holding_of backlog.old) }
 {
     let number = frame.payload.clock;
@@ -94,7 +94,7 @@ fn hold(
     assigned: (u32, RoleNumber),
 )
     requires from_bound { from < 8 }
-    requires from_bound_2 { ((holding_of backlog.old).messages from).count < 8 }
+    requires room { ((holding_of backlog.old).messages from).count < 8 }
     ensures { holding_of backlog.new ≡ hold_message (holding_of backlog.old) from number.0 (record { kind = kind; assigned = assigned }) }
 {
     backlog.hold_message(from, number, Held { kind, assigned });
@@ -112,8 +112,8 @@ fn lay_body<B: Body>(shelf: &mut [B::Row], from: u32, frame: Frame<B>)
 // Hears the frame's clock, and holds what it brings.
 fn receive<B: Body>(table: &mut PrinterTable, from: u32, frame: Frame<B>)
     requires from_bound { from < 8 }
-    requires from_nonzero { from ≢ table.old.me.value }
-    requires frame_value { lacks_room from (printer_of table.old).holding frame ≡ false }
+    requires from_other { from ≢ table.old.me.value }
+    requires room { lacks_room from (printer_of table.old).holding frame ≡ false }
     ensures table { printer_of table.new ≡ received from frame (printer_of table.old) }
     ensures me { table.new.me ≡ table.old.me }
 {
@@ -133,13 +133,13 @@ impl Printer {
         transport: &mut T,
     ) -> Result<(), PrinterFault>
         requires from_bound { from < 8 }
-        requires from_nonzero { from ≢ number_of self.old }
+        requires from_other { from ≢ number_of self.old }
         requires delays_len_bound { length delays.now < 9 }
         requires list_len_bound { length list.old ≤ 65536 }
-        ensures answer { result ≡ take_answer (number_of self.old) from (kept_by self.old) (length list.old) (meaning transport.old) }
-        ensures after { desk_of self.new list.new shelf.new ≡ (if is_ok result then taken T.Body.Body.row (length delays.now) (delay_in delays.now) (number_of self.old) from (desk_of self.old list.old shelf.old) (oldest (meaning transport.old) from (number_of self.old)) else desk_of self.old list.old shelf.old) }
+        ensures answer { result ≡ take_answer (number_of self.old) from (kept_by self.old) (length list.old) (T.meaning transport.old) }
+        ensures after { desk_of self.new list.new shelf.new ≡ (if is_ok result then taken T.Body.Body.row (length delays.now) (delay_in delays.now) (number_of self.old) from (desk_of self.old list.old shelf.old) (oldest (T.meaning transport.old) from (number_of self.old)) else desk_of self.old list.old shelf.old) }
         ensures number { number_of self.new ≡ number_of self.old }
-        ensures net { meaning transport.new ≡ (if is_ok result then after_take (meaning transport.old) from (number_of self.old) else meaning transport.old) }
+        ensures net { T.meaning transport.new ≡ (if is_ok result then after_take (T.meaning transport.old) from (number_of self.old) else T.meaning transport.old) }
         ensures lawful { Lawful (length delays.now) (desk_of self.old list.old shelf.old) (desk_of self.new list.new shelf.new) }
     {
         self.take_oldest(from, delays, list, shelf, transport)
@@ -155,13 +155,13 @@ impl Printer {
         transport: &mut T,
     ) -> Result<(), PrinterFault>
         requires from_bound { from < 8 }
-        requires from_nonzero { from ≢ number_of self.old }
+        requires from_other { from ≢ number_of self.old }
         requires delays_len_bound { length delays.now < 9 }
         requires list_len_bound { length list.old ≤ 65536 }
-        ensures answer { result ≡ take_answer (number_of self.old) from (kept_by self.old) (length list.old) (meaning transport.old) }
-        ensures after { desk_of self.new list.new shelf.new ≡ (if is_ok result then taken T.Body.Body.row (length delays.now) (delay_in delays.now) (number_of self.old) from (desk_of self.old list.old shelf.old) (oldest (meaning transport.old) from (number_of self.old)) else desk_of self.old list.old shelf.old) }
+        ensures answer { result ≡ take_answer (number_of self.old) from (kept_by self.old) (length list.old) (T.meaning transport.old) }
+        ensures after { desk_of self.new list.new shelf.new ≡ (if is_ok result then taken T.Body.Body.row (length delays.now) (delay_in delays.now) (number_of self.old) from (desk_of self.old list.old shelf.old) (oldest (T.meaning transport.old) from (number_of self.old)) else desk_of self.old list.old shelf.old) }
         ensures number { number_of self.new ≡ number_of self.old }
-        ensures net { meaning transport.new ≡ (if is_ok result then after_take (meaning transport.old) from (number_of self.old) else meaning transport.old) }
+        ensures net { T.meaning transport.new ≡ (if is_ok result then after_take (T.meaning transport.old) from (number_of self.old) else T.meaning transport.old) }
     {
         if self.table.length as usize >= list.len() {
             return Err(self.refused(PrinterRefusal::ListFull));

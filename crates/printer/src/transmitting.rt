@@ -35,10 +35,10 @@ fn settle_debt(table: &mut PrinterTable)
 // Posts the reassignment that is owed.
 fn repay<T: Transport>(table: &mut PrinterTable, transport: &mut T) -> Result<(), PrinterFault>
     requires { table.old.duty.owes ≡ true }
-    ensures answer { result ≡ posting_answer (meaning transport.old) table.old.me.value }
+    ensures answer { result ≡ posting_answer (T.meaning transport.old) table.old.me.value }
     ensures table { printer_of table.new ≡ (if is_ok result then repaid table.old.me.value (posted_at table.old.clocks.own.0 (printer_of table.old)) else printer_of table.old) }
     ensures me { table.new.me ≡ table.old.me }
-    ensures net { meaning transport.new ≡ (if is_ok result then after_post (meaning transport.old) (due_frame table.old.me.value (printer_of table.old) Reassignment) else meaning transport.old) }
+    ensures net { T.meaning transport.new ≡ (if is_ok result then after_post (T.meaning transport.old) (due_frame table.old.me.value (printer_of table.old) Reassignment) else T.meaning transport.old) }
 {
     let last = table.backlog.messages[table.me.value as usize].passed;
     let sent = MessageNumber(last.0 + table.backlog.messages[table.me.value as usize].count);
@@ -52,7 +52,7 @@ fn repay<T: Transport>(table: &mut PrinterTable, transport: &mut T) -> Result<()
 // Holds a ticket of the printer's own, with the number of its clock.
 fn hold_ticket(table: &mut PrinterTable, sender: u32, message: MessageNumber)
     requires sender_bound { sender < 8 }
-    requires value_bound { ((printer_of table.old).holding.tickets table.old.me.value).count < 16 }
+    requires room { ((printer_of table.old).holding.tickets table.old.me.value).count < 16 }
     ensures table { printer_of table.new ≡ issued table.old.me.value sender message (printer_of table.old) }
     ensures me { table.new.me ≡ table.old.me }
 {
@@ -76,11 +76,11 @@ fn issue<T: Transport>(
     transport: &mut T,
 ) -> Result<(), PrinterFault>
     requires fits_ticket { FitsTicket table.old.me.value (printer_of table.old) sender message }
-    requires own_bound { table.old.clocks.own.0 < 4294967295 }
-    ensures answer { result ≡ posting_answer (meaning transport.old) table.old.me.value }
+    requires clock_bound { table.old.clocks.own.0 < 4294967295 }
+    ensures answer { result ≡ posting_answer (T.meaning transport.old) table.old.me.value }
     ensures table { printer_of table.new ≡ (if is_ok result then issued table.old.me.value sender message (posted_at (table.old.clocks.own.0 + 1) (printer_of table.old)) else printer_of table.old) }
     ensures me { table.new.me ≡ table.old.me }
-    ensures net { meaning transport.new ≡ (if is_ok result then after_post (meaning transport.old) (due_frame table.old.me.value (printer_of table.old) (Ticket sender message)) else meaning transport.old) }
+    ensures net { T.meaning transport.new ≡ (if is_ok result then after_post (T.meaning transport.old) (due_frame table.old.me.value (printer_of table.old) (Ticket sender message)) else T.meaning transport.old) }
 {
     let clock = TicketNumber(table.clocks.own.0 + 1);
     let payload = ticket_payload(clock, sender, message);
@@ -91,10 +91,10 @@ fn issue<T: Transport>(
 
 // Posts the printer's clock.
 fn tell_clock<T: Transport>(table: &mut PrinterTable, transport: &mut T) -> Result<(), PrinterFault>
-    ensures answer { result ≡ posting_answer (meaning transport.old) table.old.me.value }
+    ensures answer { result ≡ posting_answer (T.meaning transport.old) table.old.me.value }
     ensures table { printer_of table.new ≡ (if is_ok result then posted_at table.old.clocks.own.0 (printer_of table.old) else printer_of table.old) }
     ensures me { table.new.me ≡ table.old.me }
-    ensures net { meaning transport.new ≡ (if is_ok result then after_post (meaning transport.old) (due_frame table.old.me.value (printer_of table.old) Clock) else meaning transport.old) }
+    ensures net { T.meaning transport.new ≡ (if is_ok result then after_post (T.meaning transport.old) (due_frame table.old.me.value (printer_of table.old) Clock) else T.meaning transport.old) }
 {
     let payload = clock_payload(table.clocks.own);
     post(table, payload, transport)
@@ -113,10 +113,10 @@ fn ticket_and_pass<T: Transport>(
     requires fits_ticket { FitsTicket table.old.me.value (printer_of table.old) sender message }
     requires delays_len_bound { length delays.now < 9 }
     requires list_len_bound { length list.old ≤ 65536 }
-    ensures answer { result ≡ ticket_answer table.old.me.value (printer_of table.old) (meaning transport.old) }
+    ensures answer { result ≡ ticket_answer table.old.me.value (printer_of table.old) (T.meaning transport.old) }
     ensures after { desk (printer_of table.new) list.new shelf.now ≡ (if is_ok result then after_due (length delays.now) (delay_in delays.now) table.old.me.value (desk (printer_of table.old) list.old shelf.now) (Ticket sender message) else desk (printer_of table.old) list.old shelf.now) }
     ensures me { table.new.me ≡ table.old.me }
-    ensures net { meaning transport.new ≡ (if is_ok result then after_post (meaning transport.old) (due_frame table.old.me.value (printer_of table.old) (Ticket sender message)) else meaning transport.old) }
+    ensures net { T.meaning transport.new ≡ (if is_ok result then after_post (T.meaning transport.old) (due_frame table.old.me.value (printer_of table.old) (Ticket sender message)) else T.meaning transport.old) }
 {
     if table.clocks.own.0 >= u32::MAX {
         return Err(PrinterFault::Printer {
@@ -140,10 +140,10 @@ impl Printer {
     ) -> Result<(), PrinterFault>
         requires delays_len_bound { length delays.now < 9 }
         requires list_len_bound { length list.old ≤ 65536 }
-        ensures answer { result ≡ transmit_answer (length delays.now) (number_of self.old) (kept_by self.old) (length list.old) (meaning transport.old) }
+        ensures answer { result ≡ transmit_answer (length delays.now) (number_of self.old) (kept_by self.old) (length list.old) (T.meaning transport.old) }
         ensures after { desk_of self.new list.new shelf.now ≡ (if is_ok result then transmitted (length delays.now) (delay_in delays.now) (number_of self.old) (desk_of self.old list.old shelf.now) (due (length delays.now) (number_of self.old) (kept_by self.old)) else desk_of self.old list.old shelf.now) }
         ensures number { number_of self.new ≡ number_of self.old }
-        ensures net { meaning transport.new ≡ (if is_ok result then after_transmit (number_of self.old) (kept_by self.old) (meaning transport.old) (due (length delays.now) (number_of self.old) (kept_by self.old)) else meaning transport.old) }
+        ensures net { T.meaning transport.new ≡ (if is_ok result then after_transmit (number_of self.old) (kept_by self.old) (T.meaning transport.old) (due (length delays.now) (number_of self.old) (kept_by self.old)) else T.meaning transport.old) }
         ensures lawful { Lawful (length delays.now) (desk_of self.old list.old shelf.now) (desk_of self.new list.new shelf.now) }
     {
         self.transmit_first(delays, list, shelf, transport)
@@ -159,10 +159,10 @@ impl Printer {
     ) -> Result<(), PrinterFault>
         requires delays_len_bound { length delays.now < 9 }
         requires list_len_bound { length list.old ≤ 65536 }
-        ensures answer { result ≡ transmit_answer (length delays.now) (number_of self.old) (kept_by self.old) (length list.old) (meaning transport.old) }
+        ensures answer { result ≡ transmit_answer (length delays.now) (number_of self.old) (kept_by self.old) (length list.old) (T.meaning transport.old) }
         ensures after { desk_of self.new list.new shelf.now ≡ (if is_ok result then transmitted (length delays.now) (delay_in delays.now) (number_of self.old) (desk_of self.old list.old shelf.now) (due (length delays.now) (number_of self.old) (kept_by self.old)) else desk_of self.old list.old shelf.now) }
         ensures number { number_of self.new ≡ number_of self.old }
-        ensures net { meaning transport.new ≡ (if is_ok result then after_transmit (number_of self.old) (kept_by self.old) (meaning transport.old) (due (length delays.now) (number_of self.old) (kept_by self.old)) else meaning transport.old) }
+        ensures net { T.meaning transport.new ≡ (if is_ok result then after_transmit (number_of self.old) (kept_by self.old) (T.meaning transport.old) (due (length delays.now) (number_of self.old) (kept_by self.old)) else T.meaning transport.old) }
     {
         if self.table.length as usize >= list.len() {
             return Err(self.refused(PrinterRefusal::ListFull));

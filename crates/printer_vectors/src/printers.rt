@@ -1,7 +1,7 @@
 // Two printers that share claims, step by step.
-use sender_log::LogTransport;
 use printer::{Printer, PrinterFault, PrinterState, Record, RecordKind};
 use ring::RingTransport;
+use sender_log::LogTransport;
 use std::alloc::Global;
 use std::process::Abort;
 use std::test::Fail;

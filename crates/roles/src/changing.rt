@@ -10,7 +10,7 @@ impl Configuration {
     // A printer gets a rank, under its next role number.
     fn appoint(&mut self, printer: u32, rank: Rank)
         requires printer_bound { printer < 8 }
-        requires printer_bound_2 { (conf_of self.old printer).role.0 < 4294967295 }
+        requires role_bound { (conf_of self.old printer).role.0 < 4294967295 }
         ensures { conf_of self.new ≡ appointed (conf_of self.old) printer rank }
     {
         let RoleNumber(role) = self.seats[printer as usize].role;
@@ -23,7 +23,7 @@ impl Configuration {
     // A passive printer becomes active; any other stays as it is.
     fn raise(&mut self, printer: u32)
         requires printer_bound { printer < 8 }
-        requires printer_bound_2 { (conf_of self.old printer).role.0 < 4294967295 }
+        requires role_bound { (conf_of self.old printer).role.0 < 4294967295 }
         ensures { conf_of self.new ≡ after_up (conf_of self.old) printer }
     {
         if self.seat(printer).rank == Rank::Passive {
@@ -34,7 +34,7 @@ impl Configuration {
     // A printer becomes passive, if another is active.
     fn lower(&mut self, count: u32, printer: u32)
         requires printer_bound { printer < 8 }
-        requires printer_bound_2 { (conf_of self.old printer).role.0 < 4294967295 }
+        requires role_bound { (conf_of self.old printer).role.0 < 4294967295 }
         ensures { conf_of self.new ≡ after_down count (conf_of self.old) printer }
     {
         if self.another_active(count, printer) {
@@ -57,7 +57,7 @@ impl Configuration {
     // If none is active, the highest that remains becomes active.
     fn promote(&mut self, count: u32)
         requires count_bound { count < 9 }
-        requires by_index { (a : ℕ) → (conf_of self.old a).role.0 < 4294967295 }
+        requires role_bound { (a : ℕ) → (conf_of self.old a).role.0 < 4294967295 }
         ensures { conf_of self.new ≡ promoted count (conf_of self.old) }
     {
         if self.any_active(count) {
@@ -80,7 +80,7 @@ impl Configuration {
     pub fn record(&mut self, count: u32, kind: RecordKind, printer: u32)
         requires count_bound { count < 9 }
         requires printer_bound { printer < 8 }
-        requires by_index { (a : ℕ) → (conf_of self.old a).role.0 < 4294967295 }
+        requires role_bound { (a : ℕ) → (conf_of self.old a).role.0 < 4294967295 }
         ensures { conf_of self.new ≡ changed count (conf_of self.old) kind printer }
     {
         match kind {

@@ -1,5 +1,5 @@
 -- One record passed on, put together from its parts, and the bounds that it keeps.
-use Rattle.std.proofs.Common.{◌≡◌, ℕ, ◌+◌, ◌-◌, ◌<◌, ◌≤◌, Bool, true, false, cond, ◌&&◌, ◌||◌, eqb, ltb, Some, None, Option, sym, refl, ap, ◌∙◌, subst, arith}
+use Rattle.std.proofs.Common.{◌≡◌, ℕ, ◌+◌, ◌<◌, ◌≤◌, true, ◌||◌, eqb, ltb, Some, None, Option, refl, ap, ◌∙◌, arith}
 use Rattle.std.proofs.lemmas.Bool.{cond_both, and_parts, ltb-true}
 use Rattle.std.proofs.lemmas.Bool.Decides.{nat_tests}
 use Rattle.frame.specs.declared.RoleNumber.{RoleNumber}
@@ -11,7 +11,6 @@ use Rattle.roles.proofs.NearestLaws.{nearest_least}
 use Rattle.roles.specs.declared.RecordKind.{RecordKind}
 use Rattle.roles.specs.declared.RecordKind.TheVariants.{Data, Up, Down, Gone}
 use Rattle.backlog.specs.Holdings.{Holding, Row, popped, pass_first}
-use Rattle.backlog.specs.declared.Held.{Held}
 use Rattle.backlog.specs.declared.Ticket.{Ticket}
 use Rattle.table.specs.Passing.{passed_on, kind_held, duty_after, ruled, sequencer_after, unserved, pair_or}
 use Rattle.table.specs.Printers.{Printer}

@@ -1,5 +1,5 @@
 -- Every record changes the configuration as it changes the one that the list gives.
-use Rattle.std.proofs.Common.{◌≡◌, ℕ, zero, suc, ◌+◌, ◌-◌, ◌<◌, List, [], ◌∷◌, ◌++◌, length, get_or, take, sym, refl, ap, ◌∙◌, subst, add-one, arith}
+use Rattle.std.proofs.Common.{◌≡◌, ℕ, zero, suc, ◌+◌, ◌-◌, ◌<◌, List, [], ◌∷◌, length, take, sym, refl, ap, ◌∙◌, subst, add-one, arith}
 use Rattle.roles.specs.Configurations.{Conf, changed}
 use Rattle.roles.specs.declared.RecordKind.{RecordKind}
 use Rattle.roles.specs.declared.RecordKind.TheVariants.{Gone}

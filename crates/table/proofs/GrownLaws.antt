@@ -1,6 +1,5 @@
 -- Passing on leaves clocks, shelf and what was delivered alone.
-use Rattle.std.proofs.Common.{◌≡◌, ℕ, zero, suc, ◌+◌, ◌-◌, ◌<◌, ◌≤◌, List, [], ◌∷◌, length, take, sym, refl, ap, ◌∙◌, subst, arith}
-use Rattle.backlog.specs.Tickets.{tickets_held}
+use Rattle.std.proofs.Common.{◌≡◌, ℕ, zero, suc, ◌+◌, ◌-◌, ◌≤◌, List, [], ◌∷◌, length, take, refl, ap, ◌∙◌, arith}
 use Rattle.table.specs.Departures.{departed, left_by}
 use Rattle.table.specs.Desks.{Desk, pass_one, pass_all}
 use Rattle.table.specs.Grown.{Grown}

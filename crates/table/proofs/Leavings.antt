@@ -1,19 +1,16 @@
 -- A departure, put together from its parts; the bounds that it keeps; and that there is room for it.
-use Rattle.std.proofs.Common.{◌≡◌, ℕ, zero, suc, ◌+◌, ◌-◌, ◌<◌, ◌≤◌, Bool, true, false, cond, not, ◌&&◌, eqb, ltb, List, length, Some, None, Option, sym, refl, ap, ◌∙◌, subst, arith, MatchOption}
-use Rattle.std.proofs.lemmas.Bool.{cond_both, cases_Bool, cond-true, cond-false, and_parts, ltb-true}
+use Rattle.std.proofs.Common.{◌≡◌, ℕ, ◌+◌, ◌-◌, ◌<◌, ◌≤◌, Bool, true, false, cond, ltb, List, length, Some, None, Option, refl, ap, ◌∙◌, subst, arith}
+use Rattle.std.proofs.lemmas.Bool.{cond_both, ltb-true}
 use Rattle.std.proofs.lemmas.Bool.Decides.{nat_tests}
 use Rattle.frame.specs.declared.RoleNumber.{RoleNumber}
 use Rattle.roles.specs.Configurations.{Conf, changed, own_pair}
-use Rattle.roles.specs.Functions.{put}
-use Rattle.roles.proofs.Functions.{put_all}
 use Rattle.roles.proofs.RoleBounds.{changed_bound}
 use Rattle.roles.specs.declared.RecordKind.TheVariants.{Gone}
-use Rattle.backlog.specs.Holdings.{Holding, Row, dropped, drop_messages}
+use Rattle.backlog.specs.Holdings.{Holding, drop_messages}
 use Rattle.backlog.specs.Tickets.{first_ticket, tickets_held}
-use Rattle.backlog.specs.declared.Held.{Held}
 use Rattle.backlog.specs.declared.Ticket.{Ticket}
 use Rattle.backlog.proofs.TicketLaws.{There, first_ticket_there, tickets_held_pass}
-use Rattle.table.specs.Departures.{is_promoted, taken_over, own_taken_over, promoted_duty, bereft, departed, left_by}
+use Rattle.table.specs.Departures.{is_promoted, own_taken_over, promoted_duty, bereft, departed, left_by}
 use Rattle.table.specs.Desks.{Desk, desk, next_to_pass, only_if, pass_one, passing, pass_all}
 use Rattle.table.specs.Passing.{ruled, may_pass}
 use Rattle.table.specs.Printers.{Printer}

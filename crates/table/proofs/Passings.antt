@@ -1,5 +1,5 @@
 -- Passing on, step by step: it goes on as long as there is a next ticket, and then nothing is left to pass on.
-use Rattle.std.proofs.Common.{◌≡◌, ℕ, zero, suc, ◌+◌, ◌-◌, ◌<◌, ◌≤◌, Bool, true, false, cond, List, length, Some, None, Option, sym, refl, ap, ◌∙◌, arith}
+use Rattle.std.proofs.Common.{◌≡◌, ℕ, zero, suc, ◌+◌, ◌-◌, ◌<◌, length, Some, None, Option, sym, refl, ap, ◌∙◌, arith}
 use Rattle.backlog.specs.declared.Ticket.{Ticket}
 use Rattle.table.specs.Desks.{Desk, next_to_pass, pass_one, pass_next, passing, pass_all, Stuck}
 use Rattle.table.specs.declared.passing.Heed.{Heed}

@@ -1,5 +1,5 @@
 -- What the departure of another printer does.
-use Rattle.std.specs.Prelude.{ℕ, ◌+◌, Bool, true, false, cond, not, ◌&&◌}
+use Rattle.std.specs.Prelude.{ℕ, ◌+◌, Bool, cond, not, ◌&&◌}
 use Rattle.frame.specs.declared.RoleNumber.{RoleNumber}
 use Rattle.roles.specs.Configurations.{Conf, is_active, own_pair, changed}
 use Rattle.roles.specs.Functions.{put}

@@ -1,5 +1,5 @@
 -- A printer together with its parts of the two stores, and passing on until nothing can be passed on.
-use Rattle.std.specs.Prelude.{◌≡◌, ℕ, zero, suc, ◌-◌, Bool, true, false, cond, ◌&&◌, List, length, Some, None, Option, nat_lt}
+use Rattle.std.specs.Prelude.{◌≡◌, ℕ, zero, suc, ◌-◌, Bool, cond, List, length, Some, None, Option, nat_lt}
 use Rattle.backlog.specs.Tickets.{first_ticket}
 use Rattle.backlog.specs.declared.Ticket.{Ticket}
 use Rattle.table.specs.Passing.{may_pass, passed_on, kind_held}

@@ -1,5 +1,5 @@
 -- Which frame is due.
-use Rattle.std.specs.Prelude.{◌≡◌, ℕ, ◌<◌, ◌≤◌, Bool, true, false, cond, not, ◌&&◌, Some, None, Option, nat_lt}
+use Rattle.std.specs.Prelude.{◌≡◌, ℕ, ◌<◌, ◌≤◌, Bool, true, cond, not, ◌&&◌, Some, None, Option, nat_lt}
 use Rattle.frame.specs.declared.MessageNumber.{MessageNumber}
 use Rattle.roles.specs.Configurations.{is_active, own_pair}
 use Rattle.backlog.specs.Wanted.{wanted, down_ticketed}

@@ -1,5 +1,5 @@
 -- What passing on leaves alone.
-use Rattle.std.specs.Prelude.{◌≡◌, ℕ, ◌≤◌, length, take}
+use Rattle.std.specs.Prelude.{◌≡◌, ◌≤◌, length, take}
 use Rattle.table.specs.Desks.{Desk}
 
 -- the list only grows at its end; clocks and shelf stay

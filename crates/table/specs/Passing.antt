@@ -1,5 +1,5 @@
 -- What passing on one record does to a printer.
-use Rattle.std.specs.Prelude.{ℕ, ◌+◌, Bool, true, false, cond, not, ◌&&◌, ◌||◌, Some, None, Option, ◌==◌, nat_le, nat_lt}
+use Rattle.std.specs.Prelude.{ℕ, ◌+◌, Bool, true, cond, not, ◌&&◌, ◌||◌, Some, None, Option, ◌==◌, nat_le, nat_lt}
 use Rattle.frame.specs.declared.RoleNumber.{RoleNumber}
 use Rattle.roles.specs.Configurations.{Conf, is_active, own_pair, serves, changed}
 use Rattle.roles.specs.Functions.{any_below}

@@ -1,5 +1,5 @@
 -- Records in a list.
-use Rattle.std.specs.Prelude.{ℕ, zero, suc, ◌+◌, ◌*◌, ◌%◌, Bool, true, false, List, [], ◌∷◌, slice_index_or}
+use Rattle.std.specs.Prelude.{ℕ, zero, suc, ◌+◌, ◌*◌, ◌%◌, List, [], ◌∷◌, slice_index_or}
 use Rattle.frame.specs.declared.MessageNumber.{MessageNumber}
 use Rattle.roles.specs.declared.RecordKind.{RecordKind}
 use Rattle.roles.specs.declared.RecordKind.TheVariants.{Data, Up, Down, Gone}

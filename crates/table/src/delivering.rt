@@ -74,7 +74,7 @@ impl PrinterTable {
         requires delays_len { length delays.now ≡ count }
         requires sender_bound { ticket.sender < 8 }
         requires issuer_bound { ticket.issuer < 8 }
-        requires length_in_bounds { self.old.length < length list.old }
+        requires room { self.old.length < length list.old }
         requires list_len_bound { length list.old ≤ 65536 }
         ensures after { desk (printer_of self.new) list.new shelf.now ≡ pass_one count (delay_in delays.now) self.old.me.value (desk (printer_of self.old) list.old shelf.now) ticket }
         ensures me { self.new.me ≡ self.old.me }

@@ -83,7 +83,7 @@ impl PrinterTable {
         requires delays_len_bound { length delays.now < 9 }
         requires leaver_bound { leaver < 8 }
         requires list_len_bound { length list.old ≤ 65536 }
-        requires self_in_bounds { self.old.length + tickets_held (length delays.now) (printer_of self.old).holding < length list.old }
+        requires room { self.old.length + tickets_held (length delays.now) (printer_of self.old).holding < length list.old }
         ensures after { desk (printer_of self.new) list.new shelf.now ≡ left_by (length delays.now) (delay_in delays.now) self.old.me.value (desk (printer_of self.old) list.old shelf.now) leaver }
         ensures me { self.new.me ≡ self.old.me }
         ensures grows { Grown (desk (printer_of self.old) list.old shelf.now) (desk (printer_of self.new) list.new shelf.now) }

@@ -1,4 +1,4 @@
-use Rattle.std.proofs.Common.{◌≡◌, ℕ, get_or}
+use Rattle.std.proofs.Common.{get_or}
 use Rattle.backlog.specs.Blanks.{no_held}
 use Rattle.backlog.specs.Holdings.{is_between, number_at, assign_to}
 use Rattle.backlog.specs.Sweeps.{Swept}

@@ -1,4 +1,4 @@
-use Rattle.std.proofs.Common.{◌≡◌, sym, refl, ap, ◌∙◌, subst, arith}
+use Rattle.std.proofs.Common.{◌≡◌, sym, refl, ap, ◌∙◌, subst}
 use Rattle.frame.specs.declared.MessageNumber.{MessageNumber}
 use Rattle.roles.specs.Configurations.{conf_of}
 use Rattle.backlog.specs.Holdings.{holding_of, hold_message}
@@ -14,25 +14,34 @@ use Rattle.printer.proofs.making.hold_own.Goals as goal
 abbrev duty_in : Duty → PrinterState → Duty
 duty_in d s = record { state = s; sequencer = d.sequencer; owes = d.owes; turn = d.turn }
 
-abbrev after : goal.After-hold-message → Printer
+abbrev after : goal.After-hold_message → Printer
 after c =
     let t = c.args.table.now in
     record {
       clocks = hearing_of t.clocks;
-      duty = duty_in t.duty c.state-made-table.result;
+      duty = duty_in t.duty c.state_made-table.result;
       conf = conf_of t.configuration;
-      holding = holding_of c.hold-message.new.self;
+      holding = holding_of c.hold_message.new.self;
       length = t.length;
     }
 
-is-after : (c : goal.After-hold-message) → after c ≡ held_own c.args.kind c.args.table.now.me.value (printer_of c.args.table.now)
+is-after : (c : goal.After-hold_message) → after c ≡ held_own c.args.kind c.args.table.now.me.value (printer_of c.args.table.now)
 is-after c =
     let t = c.args.table.now in
-    printer_path _ _ refl (ap (duty_in t.duty) c.state-made-table.ensures) refl
-    (c.hold-message.ensures ∙ ap (λ (k : MessageNumber). hold_message (holding_of t.backlog) t.me.value k.0 (record { kind = c.args.kind; assigned = t.duty.sequencer })) c.next-number-number.ensures) refl
+    printer_path _ _ refl (ap (duty_in t.duty) c.state_made-table.ensures) refl
+    (c.hold_message.ensures ∙ ap (λ (k : MessageNumber). hold_message (holding_of t.backlog) t.me.value k.0 (record { kind = c.args.kind; assigned = t.duty.sequencer })) c.next_number-number.ensures) refl
 
-pub invariant-of-table : goal.invariant-of-table
-invariant-of-table c =
+pub invariant_of-table : goal.invariant_of-table
+invariant_of-table c =
     let t = c.args.table.now in
     let s = subst (Sound t.me.value) (sym (is-after c)) (held_own_sound c.args.kind t.me.value (printer_of t) c.requires (sound t)) in
-    (t.length_ok, (s.sequencer, (s.turn, (s.roles, (s.messages, (s.tickets, (s.own, (s.owes, tt))))))))
+    record {
+      length_ok = t.length_ok;
+      sequencer_ok = s.sequencer;
+      turn_ok = s.turn;
+      roles_ok = s.roles;
+      messages_ok = s.messages;
+      tickets_ok = s.tickets;
+      own_ok = s.own;
+      owes_ok = s.owes;
+    }

@@ -3,8 +3,17 @@ use Rattle.table.proofs.Sound.{sound}
 use Rattle.printer.proofs.Receipts.{received_sound}
 use Rattle.printer.proofs.taking.receive.Goals as goal
 
-pub invariant-of-table : goal.invariant-of-table
-invariant-of-table g c =
+pub invariant_of-table : goal.invariant_of-table
+invariant_of-table g c =
     let t = c.args.table.now in
-    let s = received_sound t.me.value c.args.from c.args.frame (printer_of t) _ c.requires.1 c.hold-frame.ensures (sound t) in
-    (t.length_ok, (s.sequencer, (s.turn, (s.roles, (s.messages, (s.tickets, (s.own, (s.owes, tt))))))))
+    let s = received_sound t.me.value c.args.from c.args.frame (printer_of t) _ c.requires.from_other c.hold_frame.ensures (sound t) in
+    record {
+      length_ok = t.length_ok;
+      sequencer_ok = s.sequencer;
+      turn_ok = s.turn;
+      roles_ok = s.roles;
+      messages_ok = s.messages;
+      tickets_ok = s.tickets;
+      own_ok = s.own;
+      owes_ok = s.owes;
+    }

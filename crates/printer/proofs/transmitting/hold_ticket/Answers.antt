@@ -5,11 +5,20 @@ use Rattle.table.proofs.Sound.{sound}
 use Rattle.printer.proofs.Holds.{issued_sound}
 use Rattle.printer.proofs.transmitting.hold_ticket.Goals as goal
 
-pub invariant-of-table : goal.invariant-of-table
-invariant-of-table c =
+pub invariant_of-table : goal.invariant_of-table
+invariant_of-table c =
     let t = c.args.table.now in
-    let s = issued_sound t.me.value c.args.sender c.args.message (printer_of t) _ c.requires.0 c.hold-ticket.ensures (sound t) in
-    (t.length_ok, (s.sequencer, (s.turn, (s.roles, (s.messages, (s.tickets, (s.own, (s.owes, tt))))))))
+    let s = issued_sound t.me.value c.args.sender c.args.message (printer_of t) _ c.requires.sender_bound c.hold_ticket.ensures (sound t) in
+    record {
+      length_ok = t.length_ok;
+      sequencer_ok = s.sequencer;
+      turn_ok = s.turn;
+      roles_ok = s.roles;
+      messages_ok = s.messages;
+      tickets_ok = s.tickets;
+      own_ok = s.own;
+      owes_ok = s.owes;
+    }
 
 pub returns : goal.returns
-returns c = record { table = printer_path _ _ refl refl refl c.hold-ticket.ensures refl; me = refl }
+returns c = record { table = printer_path _ _ refl refl refl c.hold_ticket.ensures refl; me = refl }

@@ -1,4 +1,4 @@
-use Rattle.std.proofs.Common.{◌≡◌, ℕ, ◌+◌, ◌<◌, true, is_ok, Err, sym, refl, ap, ◌∙◌}
+use Rattle.std.proofs.Common.{◌+◌, true, is_ok, Err, sym, ap, ◌∙◌}
 use Rattle.frame.specs.declared.PrinterNumber.{PrinterNumber}
 use Rattle.frame.specs.declared.TicketNumber.{TicketNumber}
 use Rattle.table.specs.Printers.{printer_of}
@@ -10,10 +10,10 @@ use Rattle.printer.proofs.Holds.{tickets_still}
 use Rattle.printer.proofs.PostLaws.{posted_as}
 use Rattle.printer.proofs.transmitting.issue.Goals as goal
 
-pub returns-in-err-post : goal.returns-in-err-post
-returns-in-err-post g c =
-    let p = err_from_is_err_and c.from-residual.result c.from-residual.ensures.1 in
-    let b = c.in-err-post.ensures in
+pub returns-in_err-post : goal.returns-in_err-post
+returns-in_err-post g c =
+    let p = err_from_is_err_and c.from_residual.result c.from_residual.ensures.1 in
+    let b = c.in_err-post.ensures in
     let e = ap is_ok p.1 in
     record {
       answer = p.1 ∙ (ap Err p.2 ∙ b.answer);
@@ -22,21 +22,24 @@ returns-in-err-post g c =
       net = b.net ∙ sym (cond-false _ _ _ e);
     }
 
-pub hold-ticket-requires : goal.hold-ticket-requires
-hold-ticket-requires g c =
-    let p = c.in-ok-post.ensures in
-    (c.requires.0.0, tickets_still _ _ _ (printer_of c.args.table.now) _ (ap (λ (m : PrinterNumber). m.value) p.me) p.table c.requires.0.2)
+pub hold_ticket-requires : goal.hold_ticket-requires
+hold_ticket-requires g c =
+    let p = c.in_ok-post.ensures in
+    record {
+      sender_bound = c.requires.fits_ticket.0;
+      room = tickets_still _ _ _ (printer_of c.args.table.now) _ (ap (λ (m : PrinterNumber). m.value) p.me) p.table c.requires.fits_ticket.2;
+    }
 
 pub returns : goal.returns
 returns g c =
     let t = c.args.table.now in
-    let h = c.ticket-payload-payload.ensures in
-    let p = c.in-ok-post.ensures in
+    let h = c.ticket_payload-payload.ensures in
+    let p = c.in_ok-post.ensures in
     let me = ap (λ (m : PrinterNumber). m.value) p.me in
     let posted = p.table ∙ ap (λ (k : TicketNumber). posted_at k.0 (printer_of t)) h.0 in
     record {
       answer = p.answer;
-      table = c.hold-ticket.ensures.table ∙ (λ i. issued (me i) c.args.sender c.args.message (posted i));
-      me = c.hold-ticket.ensures.me ∙ p.me;
+      table = c.hold_ticket.ensures.table ∙ (λ i. issued (me i) c.args.sender c.args.message (posted i));
+      me = c.hold_ticket.ensures.me ∙ p.me;
       net = posted_as _ (g.T.Transport.meaning c.args.transport.now) true t.me.value _ (record { 0 = t.clocks.own.0 + 1 }) _ _ h.0 h.1 p.net;
     }

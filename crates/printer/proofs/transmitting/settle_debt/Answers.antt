@@ -3,8 +3,17 @@ use Rattle.table.proofs.Sound.{sound}
 use Rattle.printer.proofs.Holds.{repaid_sound}
 use Rattle.printer.proofs.transmitting.settle_debt.Goals as goal
 
-pub invariant-of-table : goal.invariant-of-table
-invariant-of-table c =
+pub invariant_of-table : goal.invariant_of-table
+invariant_of-table c =
     let t = c.args.table.now in
-    let s = repaid_sound t.me.value (printer_of t) _ c.reassign-all.ensures (sound t) in
-    (t.length_ok, (s.sequencer, (s.turn, (s.roles, (s.messages, (s.tickets, (s.own, (s.owes, tt))))))))
+    let s = repaid_sound t.me.value (printer_of t) _ c.reassign_all.ensures (sound t) in
+    record {
+      length_ok = t.length_ok;
+      sequencer_ok = s.sequencer;
+      turn_ok = s.turn;
+      roles_ok = s.roles;
+      messages_ok = s.messages;
+      tickets_ok = s.tickets;
+      own_ok = s.own;
+      owes_ok = s.owes;
+    }

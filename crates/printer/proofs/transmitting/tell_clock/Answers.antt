@@ -1,4 +1,4 @@
-use Rattle.std.proofs.Common.{◌≡◌, cond, is_ok, sym, refl, ap, ◌∙◌}
+use Rattle.std.proofs.Common.{cond, is_ok, ap, ◌∙◌}
 use Rattle.frame.specs.declared.TicketNumber.{TicketNumber}
 use Rattle.table.specs.Printers.{printer_of}
 use Rattle.printer.specs.Posts.{posted_at}
@@ -8,7 +8,7 @@ use Rattle.printer.proofs.transmitting.tell_clock.Goals as goal
 pub returns : goal.returns
 returns g c =
     let t = c.args.table.now in
-    let h = c.clock-payload-payload.ensures in
+    let h = c.clock_payload-payload.ensures in
     record {
       answer = c.post.ensures.answer;
       table = c.post.ensures.table ∙

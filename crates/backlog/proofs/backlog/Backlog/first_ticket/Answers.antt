@@ -11,7 +11,7 @@ pub loop-issuer-preserved : goal.loop-issuer-preserved
 loop-issuer-preserved c =
     let h = holding_of c.args.self.now in
     let b = c.loop-issuer.issuer in
-    c.first-or-first.ensures ∙ (ap (first_or b (h.tickets b)) c.loop-issuer.invariant ∙ sym (first_ticket_more b h))
+    c.first_or-first.ensures ∙ (ap (first_or b (h.tickets b)) c.loop-issuer.invariant ∙ sym (first_ticket_more b h))
 
 pub returns : goal.returns
 returns c =

@@ -12,16 +12,16 @@ test b n x i = is_ticketed_down n (holding_of b) x (((holding_of b).messages x).
 pub loop-i-init : goal.loop-i-init
 loop-i-init c = refl
 
-pub returns-then-is-ticketed-down : goal.returns-then-is-ticketed-down
-returns-then-is-ticketed-down c =
+pub returns-then-is_ticketed_down : goal.returns-then-is_ticketed_down
+returns-then-is_ticketed_down c =
     let b = c.args.self.now in
     sym (any_below_at ((holding_of b).messages c.args.sender).count (test b c.args.count c.args.sender) c.loop-i.i c.loop-i-test.true
-    (sym c.if-is-ticketed-down.ensures))
+    (sym c.if-is_ticketed_down.ensures))
 
 pub loop-i-preserved : goal.loop-i-preserved
 loop-i-preserved c =
     none_below_more c.loop-i.i (test c.args.self.now c.args.count c.args.sender) c.loop-i.invariant
-    (sym c.if-is-ticketed-down.ensures)
+    (sym c.if-is_ticketed_down.ensures)
 
 pub returns : goal.returns
 returns c =

@@ -1,4 +1,4 @@
-use Rattle.std.proofs.Common.{◌≡◌, ℕ, ◌%◌, Option, sym, ap, ◌∙◌}
+use Rattle.std.proofs.Common.{ℕ, ◌%◌, Option, sym, ◌∙◌}
 use Rattle.frame.specs.declared.MessageNumber.{MessageNumber}
 use Rattle.frame.specs.declared.RoleNumber.{RoleNumber}
 use Rattle.backlog.specs.Holdings.{holding_of}
@@ -13,17 +13,17 @@ of b n s y = wanted_of n (holding_of b) s (y % n)
 pub loop-i-init : goal.loop-i-init
 loop-i-init c = search_starts (of c.args.self.now c.args.count c.args.to) c.args.count c.args.from
 
-pub returns-then-is-some : goal.returns-then-is-some
-returns-then-is-some c =
+pub returns-then-is_some : goal.returns-then-is_some
+returns-then-is_some c =
     let a = search_finds_some (of c.args.self.now c.args.count c.args.to) c.args.count c.args.from
-    c.loop-i.i c.wanted-of-found.result _ c.loop-i-test.true c.wanted-of-found.ensures.answer (sym c.if-is-some.ensures) c.loop-i.invariant in
-    record { answer = a; there = c.wanted-of-found.ensures.there }
+    c.loop-i.i c.wanted_of-found.result _ c.loop-i-test.true c.wanted_of-found.ensures.answer (sym c.if-is_some.ensures) c.loop-i.invariant in
+    record { answer = a; there = c.wanted_of-found.ensures.there }
 
 pub loop-i-preserved : goal.loop-i-preserved
 loop-i-preserved c =
     search_goes_on (of c.args.self.now c.args.count c.args.to) c.args.count c.args.from
     c.loop-i.i _ c.loop-i-test.true
-    (sym c.wanted-of-found.ensures.answer ∙ is_none c.wanted-of-found.result (sym c.if-is-some.ensures)) c.loop-i.invariant
+    (sym c.wanted_of-found.ensures.answer ∙ is_none c.wanted_of-found.result (sym c.if-is_some.ensures)) c.loop-i.invariant
 
 pub returns : goal.returns
 returns c =

@@ -1,9 +1,9 @@
-use Rattle.std.proofs.Common.{◌≡◌, ℕ, ◌+◌, Option, sym, ap, ◌∙◌, arith}
+use Rattle.std.proofs.Common.{ℕ, ◌+◌, Option, sym, arith}
 use Rattle.std.proofs.lemmas.Bool.{cond-true, cond-false}
 use Rattle.frame.specs.declared.MessageNumber.{MessageNumber}
 use Rattle.frame.specs.declared.RoleNumber.{RoleNumber}
 use Rattle.backlog.specs.Holdings.{holding_of}
-use Rattle.backlog.specs.Wanted.{wanted_at, wanted_of}
+use Rattle.backlog.specs.Wanted.{wanted_at}
 use Rattle.backlog.specs.declared.backlog.Backlog.{Backlog}
 use Rattle.backlog.proofs.Searches.{search_starts, search_finds, search_goes_on, search_ends}
 use Rattle.backlog.proofs.backlog.Backlog.wanted_of.Goals as goal
@@ -27,7 +27,7 @@ returns-then-wants c =
     let b = c.args.self.now in
     let a = search_finds (at b c.args.count c.args.to c.args.sender) (many b c.args.sender) (next b c.args.sender)
     c.loop-i.i _ _ c.loop-i-test.true (cond-true _ _ _ (sym c.if-wants.ensures)) c.loop-i.invariant in
-    record { answer = a; there = (c.requires.1, omega arith) }
+    record { answer = a; there = (c.requires.sender_bound, omega arith) }
 
 pub loop-i-preserved : goal.loop-i-preserved
 loop-i-preserved c =

@@ -13,17 +13,17 @@ test r x k i = is_for ((ticket_row r).slot ((r.passed + i) % 16)) x k
 pub loop-i-init : goal.loop-i-init
 loop-i-init c = refl
 
-pub returns-then-is-for : goal.returns-then-is-for
-returns-then-is-for c =
+pub returns-then-is_for : goal.returns-then-is_for
+returns-then-is_for c =
     let p = test c.args.self.now c.args.sender c.args.message.0 in
     sym (any_below_at c.args.self.now.count p c.loop-i.i c.loop-i-test.true
-    (ap (λ (s : Stub). is_for s c.args.sender c.args.message.0) (sym c.stub.ensures) ∙ sym c.if-is-for.ensures))
+    (ap (λ (s : Stub). is_for s c.args.sender c.args.message.0) (sym c.stub.ensures) ∙ sym c.if-is_for.ensures))
 
 pub loop-i-preserved : goal.loop-i-preserved
 loop-i-preserved c =
     let p = test c.args.self.now c.args.sender c.args.message.0 in
     none_below_more c.loop-i.i p c.loop-i.invariant
-    (ap (λ (s : Stub). is_for s c.args.sender c.args.message.0) (sym c.stub.ensures) ∙ sym c.if-is-for.ensures)
+    (ap (λ (s : Stub). is_for s c.args.sender c.args.message.0) (sym c.stub.ensures) ∙ sym c.if-is_for.ensures)
 
 pub returns : goal.returns
 returns c =

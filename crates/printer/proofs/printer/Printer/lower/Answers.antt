@@ -1,4 +1,4 @@
-use Rattle.std.proofs.Common.{◌≡◌, is_ok, sym, ap, ◌∙◌}
+use Rattle.std.proofs.Common.{is_ok, ap, ◌∙◌}
 use Rattle.frame.specs.declared.Content.TheVariants as contents
 use Rattle.frame.specs.declared.MessageNumber.{MessageNumber}
 use Rattle.frame.specs.declared.PrinterNumber.{PrinterNumber}
@@ -13,9 +13,9 @@ returns g c =
     let s = c.args.self.now in
     let q = s.table.duty.sequencer in
     record {
-      answer = c.make.ensures.answer ∙ unless_none (number_of s) (make_refusal Down (number_of s) (kept_by s)) _ c.in-ok-may-make.ensures.answer;
+      answer = c.make.ensures.answer ∙ unless_none (number_of s) (make_refusal Down (number_of s) (kept_by s)) _ c.in_ok-may_make.ensures.answer;
       table = c.make.ensures.table;
       number = ap (λ (m : PrinterNumber). m.value) c.make.ensures.me;
-      net = posted_own _ (g.T.Transport.meaning c.args.transport.now) (is_ok c.make.result) (number_of s) (kept_by s) _ _ _ c.down-payload-payload.ensures.0
-          (c.down-payload-payload.ensures.1 ∙ ap (λ (k : MessageNumber). contents.Down k q.0 q.1) c.next-number-number.ensures) c.make.ensures.net;
+      net = posted_own _ (g.T.Transport.meaning c.args.transport.now) (is_ok c.make.result) (number_of s) (kept_by s) _ _ _ c.down_payload-payload.ensures.0
+          (c.down_payload-payload.ensures.1 ∙ ap (λ (k : MessageNumber). contents.Down k q.0 q.1) c.next_number-number.ensures) c.make.ensures.net;
     }

@@ -1,4 +1,4 @@
-use Rattle.std.proofs.Common.{◌≡◌, true, sym, ap, ◌∙◌}
+use Rattle.std.proofs.Common.{true, ap, ◌∙◌}
 use Rattle.frame.specs.declared.Content.TheVariants as contents
 use Rattle.frame.specs.declared.MessageNumber.{MessageNumber}
 use Rattle.frame.specs.declared.PrinterNumber.{PrinterNumber}
@@ -13,13 +13,13 @@ pub returns : goal.returns
 returns g c =
     let s = c.args.self.now in
     let q = s.table.duty.sequencer in
-    let m = c.in-ok-make.ensures in
+    let m = c.in_ok-make.ensures in
     let me = ap (λ (m : PrinterNumber). m.value) m.me in
     record {
-      answer = m.answer ∙ unless_none (number_of s) (make_refusal Data (number_of s) (kept_by s)) _ c.in-ok-may-make.ensures.answer;
+      answer = m.answer ∙ unless_none (number_of s) (make_refusal Data (number_of s) (kept_by s)) _ c.in_ok-may_make.ensures.answer;
       table = m.table;
       number = me;
-      shelf = laid _ _ _ _ _ _ _ _ me c.next-number-number.ensures c.to-row.ensures c.lay.ensures;
-      net = posted_own _ (g.T.Transport.meaning c.args.transport.now) true (number_of s) (kept_by s) _ _ _ c.data-payload-payload.ensures.0
-          (c.data-payload-payload.ensures.1 ∙ ap (λ (k : MessageNumber). contents.Data k q.0 q.1 c.args.body) c.next-number-number.ensures) m.net;
+      shelf = laid _ _ _ _ _ _ _ _ me c.next_number-number.ensures c.to_row.ensures c.lay.ensures;
+      net = posted_own _ (g.T.Transport.meaning c.args.transport.now) true (number_of s) (kept_by s) _ _ _ c.data_payload-payload.ensures.0
+          (c.data_payload-payload.ensures.1 ∙ ap (λ (k : MessageNumber). contents.Data k q.0 q.1 c.args.body) c.next_number-number.ensures) m.net;
     }

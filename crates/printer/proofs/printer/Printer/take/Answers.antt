@@ -10,11 +10,11 @@ returns g c =
     let s = c.args.self.now in
     let n = length c.args.delays.now in
     let d = desk_of s c.args.list.now c.args.shelf.now in
-    let r = c.take-oldest.ensures in
+    let r = c.take_oldest.ensures in
     record {
       answer = r.answer;
       after = r.after;
       number = r.number;
       net = r.net;
-      lawful = lawful_if n (is_ok c.take-oldest.result) d _ _ r.after (lawful_taken n g.Body.Body.row (delay_in c.args.delays.now) (number_of s) c.args.from d (oldest (g.T.Transport.meaning c.args.transport.now) c.args.from (number_of s)));
+      lawful = lawful_if n (is_ok c.take_oldest.result) d _ _ r.after (lawful_taken n g.T.Body.Body.row (delay_in c.args.delays.now) (number_of s) c.args.from d (oldest (g.T.Transport.meaning c.args.transport.now) c.args.from (number_of s)));
     }

@@ -10,11 +10,11 @@ returns g c =
     let s = c.args.self.now in
     let n = length c.args.delays.now in
     let d = desk_of s c.args.list.now c.args.shelf.now in
-    let r = c.transmit-first.ensures in
+    let r = c.transmit_first.ensures in
     record {
       answer = r.answer;
       after = r.after;
       number = r.number;
       net = r.net;
-      lawful = lawful_if n (is_ok c.transmit-first.result) d _ _ r.after (lawful_transmitted n (delay_in c.args.delays.now) (number_of s) d (due n (number_of s) (kept_by s)));
+      lawful = lawful_if n (is_ok c.transmit_first.result) d _ _ r.after (lawful_transmitted n (delay_in c.args.delays.now) (number_of s) d (due n (number_of s) (kept_by s)));
     }

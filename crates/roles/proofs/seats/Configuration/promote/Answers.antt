@@ -5,4 +5,4 @@ use Rattle.roles.proofs.seats.Configuration.promote.Goals as goal
 pub appoint-requires : goal.appoint-requires
 appoint-requires c =
     let below : c.in-Some.printer < c.args.count = (highest_found _ _ _ (sym c.in-Some.ensures)).0 in
-    (omega arith, c.requires.1 c.in-Some.printer)
+    record { printer_bound = omega arith; role_bound = c.requires.role_bound c.in-Some.printer }

@@ -13,14 +13,14 @@ test t k = holds_up t.me.value (printer_of t) k
 pub loop-printer-init : goal.loop-printer-init
 loop-printer-init c = refl
 
-pub returns-then-holds-up : goal.returns-then-holds-up
-returns-then-holds-up c =
+pub returns-then-holds_up : goal.returns-then-holds_up
+returns-then-holds_up c =
     sym (ap not (any_below_at c.args.count (test c.args.self.now c.args.ticket) c.loop-printer.printer c.loop-printer-test.true
-    (sym c.if-holds-up.ensures)))
+    (sym c.if-holds_up.ensures)))
 
 pub loop-printer-preserved : goal.loop-printer-preserved
 loop-printer-preserved c =
-    none_below_more c.loop-printer.printer (test c.args.self.now c.args.ticket) c.loop-printer.invariant (sym c.if-holds-up.ensures)
+    none_below_more c.loop-printer.printer (test c.args.self.now c.args.ticket) c.loop-printer.invariant (sym c.if-holds_up.ensures)
 
 pub returns : goal.returns
 returns c =

@@ -1,4 +1,4 @@
-use Rattle.std.proofs.Common.{◌≡◌, ℕ, ◌+◌, ◌<◌, ◌≤◌, length, sym, refl, ap, ◌∙◌, subst, arith}
+use Rattle.std.proofs.Common.{◌≡◌, ◌+◌, length, sym, refl, subst, arith}
 use Rattle.roles.specs.Configurations.{conf_of}
 use Rattle.roles.specs.Nearest.{delay_in}
 use Rattle.backlog.specs.Holdings.{holding_of}
@@ -7,14 +7,14 @@ use Rattle.table.specs.Printers.{Printer, printer_of, hearing_of}
 use Rattle.table.proofs.Deliveries.{delivered, passed_sound}
 use Rattle.table.proofs.Sound.{Sound, sound, number_small}
 use Rattle.table.proofs.table.PrinterTable.deliver.Goals as goal
-use Rattle.table.proofs.table.PrinterTable.deliver.Goals.{After-rule, at·returns}
+use Rattle.table.proofs.table.PrinterTable.deliver.Goals.{After-rule, at-returns}
 
 abbrev after : goal.After-rule → Printer
 after c = record {
   clocks = hearing_of c.args.self.now.clocks;
   duty = c.rule.new.self;
   conf = conf_of c.record.new.self;
-  holding = holding_of c.pass-first.new.self;
+  holding = holding_of c.pass_first.new.self;
   length = c.args.self.now.length + 1;
 }
 
@@ -24,16 +24,25 @@ is-after c =
     let t = c.args.self.now in
     delivered c.args.count (delay_in c.args.delays.now) t.me.value (printer_of t) c.args.ticket
     c.args.kind (conf_of c.record.new.self) c.record-2.new.self c.rule.new.self
-    (holding_of c.pass-first.new.self) _ (length c.args.delays.now)
-    c.requires.5 c.requires.1 c.record.ensures c.record-2.ensures c.pass-first.ensures
+    (holding_of c.pass_first.new.self) _ (length c.args.delays.now)
+    c.requires.kind_value c.requires.delays_len c.record.ensures c.record-2.ensures c.pass_first.ensures
     refl c.rule.ensures
 
-pub invariant-of-self : goal.invariant-of-self
-invariant-of-self c =
+pub invariant_of-self : goal.invariant_of-self
+invariant_of-self c =
     let t = c.args.self.now in
     let s = subst (Sound t.me.value) (sym (is-after c))
-    (passed_sound c.args.count (delay_in c.args.delays.now) t.me.value (printer_of t) c.args.ticket c.requires.0 (number_small t) (sound t)) in
-    (omega arith, (s.sequencer, (s.turn, (s.roles, (s.messages, (s.tickets, (s.own, (s.owes, tt))))))))
+    (passed_sound c.args.count (delay_in c.args.delays.now) t.me.value (printer_of t) c.args.ticket c.requires.count_bound (number_small t) (sound t)) in
+    record {
+      length_ok = omega arith;
+      sequencer_ok = s.sequencer;
+      turn_ok = s.turn;
+      roles_ok = s.roles;
+      messages_ok = s.messages;
+      tickets_ok = s.tickets;
+      own_ok = s.own;
+      owes_ok = s.owes;
+    }
 
 pub returns : goal.returns
-returns c = record { table = is-after (at·returns c).After-rule; me = refl }
+returns c = record { table = is-after (at-returns c).After-rule; me = refl }

@@ -7,14 +7,14 @@ use Rattle.table.specs.Printers.{Printer, printer_of, hearing_of}
 use Rattle.table.proofs.Leavings.{bereaved, bereft_sound}
 use Rattle.table.proofs.Sound.{Sound, sound, number_small}
 use Rattle.table.proofs.table.PrinterTable.depart.Goals as goal
-use Rattle.table.proofs.table.PrinterTable.depart.Goals.{After-rule, at·returns}
+use Rattle.table.proofs.table.PrinterTable.depart.Goals.{After-rule, at-returns}
 
 abbrev after : goal.After-rule → Printer
 after c = record {
   clocks = hearing_of c.args.self.now.clocks;
   duty = c.rule.new.self;
   conf = conf_of c.record.new.self;
-  holding = holding_of c.take-over.new.backlog;
+  holding = holding_of c.take_over.new.backlog;
   length = c.args.self.now.length + 1;
 }
 
@@ -22,19 +22,28 @@ is-after : (c : goal.After-rule) → after c ≡
     bereft (length c.args.delays.now) (delay_in c.args.delays.now) c.args.self.now.me.value (printer_of c.args.self.now) c.args.leaver
 is-after c =
     let t = c.args.self.now in
-    let won = c.is-promoted-promoted.ensures ∙
-    ap (λ (b : Bool). is_active (conf_of c.record.new.self) t.me.value && not b) c.is-active-was-active.ensures in
+    let won = c.is_promoted-promoted.ensures ∙
+    ap (λ (b : Bool). is_active (conf_of c.record.new.self) t.me.value && not b) c.is_active-was_active.ensures in
     bereaved (length c.args.delays.now) (delay_in c.args.delays.now) t.me.value (printer_of t) c.args.leaver
-    (conf_of c.record.new.self) c.is-promoted-promoted.result c.pair-of-own.result (holding_of c.drop-messages.new.self)
-    (holding_of c.take-over.new.backlog) c.promote.new.self c.rule.new.self _
-    c.record.ensures won c.pair-of-own.ensures c.drop-messages.ensures c.take-over.ensures c.promote.ensures refl c.rule.ensures
+    (conf_of c.record.new.self) c.is_promoted-promoted.result c.pair_of-own.result (holding_of c.drop_messages.new.self)
+    (holding_of c.take_over.new.backlog) c.promote.new.self c.rule.new.self _
+    c.record.ensures won c.pair_of-own.ensures c.drop_messages.ensures c.take_over.ensures c.promote.ensures refl c.rule.ensures
 
-pub invariant-of-self : goal.invariant-of-self
-invariant-of-self c =
+pub invariant_of-self : goal.invariant_of-self
+invariant_of-self c =
     let t = c.args.self.now in
     let s = subst (Sound t.me.value) (sym (is-after c))
-    (bereft_sound (length c.args.delays.now) (delay_in c.args.delays.now) t.me.value (printer_of t) c.args.leaver c.requires.0 (number_small t) (sound t)) in
-    (omega arith, (s.sequencer, (s.turn, (s.roles, (s.messages, (s.tickets, (s.own, (s.owes, tt))))))))
+    (bereft_sound (length c.args.delays.now) (delay_in c.args.delays.now) t.me.value (printer_of t) c.args.leaver c.requires.delays_len_bound (number_small t) (sound t)) in
+    record {
+      length_ok = omega arith;
+      sequencer_ok = s.sequencer;
+      turn_ok = s.turn;
+      roles_ok = s.roles;
+      messages_ok = s.messages;
+      tickets_ok = s.tickets;
+      own_ok = s.own;
+      owes_ok = s.owes;
+    }
 
 pub returns : goal.returns
-returns c = record { table = is-after (at·returns c).After-rule; me = refl }
+returns c = record { table = is-after (at-returns c).After-rule; me = refl }

@@ -1,4 +1,4 @@
-use Rattle.std.proofs.Common.{◌≡◌, length, sym, refl, ap, ◌∙◌, subst, arith}
+use Rattle.std.proofs.Common.{length, sym, refl, ap, ◌∙◌, subst, arith}
 use Rattle.frame.specs.declared.PrinterNumber.{PrinterNumber}
 use Rattle.roles.specs.Nearest.{delay_in}
 use Rattle.table.specs.Desks.{desk}
@@ -10,18 +10,25 @@ use Rattle.table.proofs.GrownLaws.{grown_all}
 use Rattle.table.proofs.Passings.{pass_again, pass_ends}
 use Rattle.table.proofs.table.PrinterTable.pass_on.Goals as goal
 
-pub pass-one-requires : goal.pass-one-requires
-pass-one-requires g c =
+pub pass_one-requires : goal.pass_one-requires
+pass_one-requires g c =
     let t = c.in-Some.ensures.there in
-    (c.requires.0, refl, t.0, t.1, t.2, omega arith)
+    record {
+      count_bound = c.requires.delays_len_bound;
+      delays_len = refl;
+      sender_bound = t.0;
+      issuer_bound = t.1;
+      room = t.2;
+      list_len_bound = omega arith;
+    }
 
 pub loop-ticket-preserved : goal.loop-ticket-preserved
 loop-ticket-preserved g c =
     let me = ap (λ (p : PrinterNumber). p.value) c.loop-ticket.invariant.0 in (
-      c.pass-one.ensures.me ∙ c.loop-ticket.invariant.0,
+      c.pass_one.ensures.me ∙ c.loop-ticket.invariant.0,
       pass_again c.args.heed (length c.args.delays.now) (delay_in c.args.delays.now) c.args.self.now.me.value
           c.loop-ticket.self.me.value _ (desk (printer_of c.loop-ticket.self) c.loop-ticket.list c.args.shelf.now) _ c.in-Some.ticket me
-          c.in-Some.ensures.there.2 c.in-Some.ensures.answer c.pass-one.ensures.after c.loop-ticket.invariant.1,
+          c.in-Some.ensures.there.2 c.in-Some.ensures.answer c.pass_one.ensures.after c.loop-ticket.invariant.1,
     )
 
 pub returns : goal.returns
@@ -29,7 +36,7 @@ returns g c =
     let me = ap (λ (p : PrinterNumber). p.value) c.loop-ticket.invariant.0 in
     let end = pass_ends c.args.heed (length c.args.delays.now) (delay_in c.args.delays.now) c.args.self.now.me.value
     c.loop-ticket.self.me.value _ (desk (printer_of c.loop-ticket.self) c.loop-ticket.list c.args.shelf.now) me
-    c.in-default.ensures.answer c.loop-ticket.invariant.1 in
+    c.in_default.ensures.answer c.loop-ticket.invariant.1 in
     record {
       after = end.0;
       me = c.loop-ticket.invariant.0;
