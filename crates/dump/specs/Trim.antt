@@ -11,11 +11,11 @@ carriage_return = 13
 abbrev pub blank : ℕ → Bool
 blank c = c == space || c == carriage_return
 
--- `leading` counts the blanks at the front, up to the first other character
+-- `prefix_len` counts the blanks at the front, up to the first other character
 abbrev pub without_front : List ℕ → List ℕ
 without_front cs = drop (prefix_len blank cs) cs
 
--- `ending` counts the blanks at the end, back to the last other character
+-- `suffix_len` counts the blanks at the end, back to the last other character
 abbrev pub without_end : List ℕ → List ℕ
 without_end cs = take (length cs - suffix_len blank cs) cs
 
