@@ -1,1 +1,3 @@
+pub mod Fitting
+pub mod Playing
 pub mod Worked

@@ -1,5 +1,5 @@
 -- Calls with any arguments: what each answers, and the scene after it, which is the same scene if it is refused.
-use Rattle.std.specs.Prelude.{ℕ, Bool, true, false, cond}
+use Rattle.std.specs.Prelude.{ℕ, cond}
 use Rattle.roles.specs.declared.RecordKind.TheVariants.{Up, Down}
 use Rattle.order.specs.Leaving.{Notice, stop_outcome, after_stop, remove_outcome, after_remove}
 use Rattle.order.specs.Refusals.{Outcome, accepted, refused, is_accepted}

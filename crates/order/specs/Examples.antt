@@ -1,12 +1,12 @@
 -- Eight worked examples, computed from opening on.
-use Rattle.std.specs.Prelude.{◌≡◌, ℕ, zero, suc, ◌*◌, Bool, true, false, List, [], ◌∷◌, ◌++◌, replicate, Some, None, Option}
+use Rattle.std.specs.Prelude.{◌≡◌, ℕ, ◌*◌, false, List, [], ◌∷◌, ◌++◌, replicate, Some, None, Option}
 use Rattle.transport.specs.Nets.{fresh}
 use Rattle.transport.specs.declared.Layer.TheVariants as layers
 use Rattle.roles.specs.declared.Rank.TheVariants as rank
 use Rattle.roles.specs.declared.RecordKind.{RecordKind}
-use Rattle.roles.specs.declared.RecordKind.TheVariants.{Data, Up, Down, Gone}
+use Rattle.roles.specs.declared.RecordKind.TheVariants.{Up, Down}
 use Rattle.table.specs.declared.Record.{Record}
-use Rattle.order.specs.Calls.{Call, send, raise, lower, change, transmit, take, stop, remove, Reply, done, outcome, after}
+use Rattle.order.specs.Calls.{Call, send, lower, transmit, take, stop, remove, Reply, done, outcome, after}
 use Rattle.order.specs.Opening.{opened}
 use Rattle.order.specs.Questions.{length_outcome, record_at, configuration_outcome}
 use Rattle.order.specs.Refusals.{Outcome, accepted, refused}
@@ -57,12 +57,13 @@ same_number = played (hall 3 2 4) (send 0 tt ∷ transmit 0 ∷ send 2 tt ∷ tr
 abbrev pub zero_alone : Room
 zero_alone = played (hall 2 3 0) (lower 1 ∷ transmit 1 ∷ take 0 1 ∷ take 0 1 ∷ [])
 
--- printer 1 has sent as many as it can: each time that printer 0's clock lets it deliver one, it sends one more;
--- printer 2 hears nothing of 0 and can deliver nothing
+-- printer 1 has sent as many as it can: each time that the clocks of 0 and 2 let it deliver one, it sends one more;
+-- printer 2 has taken seven messages of 1 and a ticket, but hears nothing of 0 and can deliver nothing
 abbrev pub far_ahead : Room
 far_ahead = played (hall 3 3 0) (
-    times 7 (send 1 tt) ++ (transmit 1 ∷ times 8 (take 0 1)) ++ (transmit 0 ∷ take 1 0 ∷ send 1 tt ∷ transmit 1 ∷ take 0 1 ∷ take 0 1 ∷ transmit 0 ∷ take 1 0
-    ∷ send 1 tt ∷ []))
+    times 7 (send 1 tt) ++ (transmit 1 ∷ times 8 (take 0 1))
+    ++ (transmit 0 ∷ take 1 0 ∷ send 1 tt ∷ transmit 1 ∷ take 0 1 ∷ take 0 1 ∷ transmit 0 ∷ take 1 0 ∷ [])
+    ++ times 8 (take 2 1) ++ (transmit 2 ∷ take 1 2 ∷ send 1 tt ∷ []))
 
 -- of three printers only 0 is active any more, and nothing waits
 abbrev pub one_of_three : Room
@@ -90,7 +91,7 @@ pub record Examples : Type 0 where
       (answer (played (hall 2 2 0) (times 6 (send 1 tt))) (send 1 tt) ≡ accepted done) × (answer (played (hall 2 2 0) (times 7 (send 1 tt))) (send 1 tt) ≡ refusal 10 1)
   -- with seven messages of a sender held its next is taken, with eight it is refused
   pub eight_held :
-      (answer (played far_ahead (times 8 (take 2 1))) (take 2 1) ≡ accepted done) × (answer (played far_ahead (times 10 (take 2 1))) (take 2 1) ≡ refusal 18 2)
+      (answer far_ahead (take 2 1) ≡ accepted done) × (answer (played far_ahead (times 2 (take 2 1))) (take 2 1) ≡ refusal 18 2)
   -- three printers, only 0 active, 0 removed: 2 is active
   pub promotes_highest :
       (configuration_outcome zero_removed 1 2 ≡ accepted (record { rank = rank.Active; role = record { 0 = 2 } }))

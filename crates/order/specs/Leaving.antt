@@ -1,6 +1,6 @@
 -- Stopping a printer, and removing one that is stopped.
-use Rattle.std.specs.Prelude.{ℕ, zero, suc, ◌+◌, Bool, true, false, cond, not, ◌&&◌, ◌||◌, List, [], ◌∷◌, is_some, ◌==◌, nat_lt}
-use Rattle.transport.specs.Nets.{Net, after_close, oldest}
+use Rattle.std.specs.Prelude.{ℕ, zero, suc, ◌+◌, Bool, false, cond, not, ◌&&◌, ◌||◌, [], ◌∷◌, is_some, ◌==◌, nat_lt}
+use Rattle.transport.specs.Nets.{after_close, oldest}
 use Rattle.roles.specs.Functions.{any_below}
 use Rattle.backlog.specs.Tickets.{tickets_held}
 use Rattle.table.specs.Departures.{left_by}

@@ -1,5 +1,5 @@
 -- Opening a hall.
-use Rattle.std.specs.Prelude.{ℕ, Bool, true, false, not, ◌&&◌, ◌||◌, List, [], ◌∷◌, is_some, ◌==◌, nat_lt}
+use Rattle.std.specs.Prelude.{ℕ, Bool, not, ◌||◌, List, [], ◌∷◌, is_some, ◌==◌, nat_lt}
 use Rattle.transport.specs.Nets.{Net, is_open, oldest}
 use Rattle.roles.specs.Functions.{any_below}
 use Rattle.table.specs.Printers.{opening}

@@ -1,5 +1,5 @@
 -- Questions: they change nothing.
-use Rattle.std.specs.Prelude.{ℕ, zero, suc, ◌-◌, ◌*◌, Bool, true, false, cond, not, ◌&&◌, ◌||◌, List, [], ◌∷◌, length, is_some, Some, None, Option, ◌==◌, nat_le}
+use Rattle.std.specs.Prelude.{ℕ, zero, suc, ◌-◌, ◌*◌, Bool, cond, not, ◌&&◌, ◌||◌, List, [], ◌∷◌, length, is_some, Some, None, Option, ◌==◌, nat_le}
 use Rattle.frame.specs.declared.RoleNumber.{RoleNumber}
 use Rattle.transport.specs.Nets.{most_posts}
 use Rattle.roles.specs.Functions.{any_below}

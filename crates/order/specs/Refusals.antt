@@ -1,5 +1,5 @@
 -- What a call answers: a refusal by its number, the printer that it names and the layer that found it, or what was asked.
-use Rattle.std.specs.Prelude.{ℕ, Bool, true, false, cond, List, [], ◌∷◌, Some, None, Ok, Err, Option}
+use Rattle.std.specs.Prelude.{ℕ, Bool, true, false, cond, List, [], ◌∷◌, Ok, Err}
 use Rattle.transport.specs.declared.Layer.{Layer}
 use Rattle.transport.specs.declared.Layer.TheVariants.{Hall}
 use Rattle.refusals.specs.Faults.{fault_number, fault_printer, fault_layer}

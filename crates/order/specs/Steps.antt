@@ -1,7 +1,7 @@
 -- The calls of one printer: what each answers, and the scene after it if it is accepted.
-use Rattle.std.specs.Prelude.{ℕ, Bool, true, false, not, ◌||◌, List, [], ◌∷◌, ◌==◌, nat_lt, slice_set}
+use Rattle.std.specs.Prelude.{ℕ, Bool, not, ◌||◌, [], ◌∷◌, ◌==◌, nat_lt, slice_set}
 use Rattle.frame.specs.declared.Content.{Content}
-use Rattle.transport.specs.Nets.{Net, after_post, after_take, oldest}
+use Rattle.transport.specs.Nets.{after_post, after_take, oldest}
 use Rattle.roles.specs.declared.RecordKind.{RecordKind}
 use Rattle.roles.specs.declared.RecordKind.TheVariants.{Data, Up, Down}
 use Rattle.table.specs.Dues.{due}

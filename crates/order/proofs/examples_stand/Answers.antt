@@ -1,4 +1,5 @@
+use Rattle.order.proofs.Worked.{examples}
 use Rattle.order.proofs.examples_stand.Goals as goal
 
 pub returns : goal.returns
-returns c = ?
+returns c = examples
