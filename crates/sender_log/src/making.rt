@@ -11,9 +11,9 @@ use transport::{TransportFault, TransportRefusal};
 impl<B: Body> LogTransport<B> {
     // The transport of n printers over these cells, empty and open.
     fn empty(n: u32, limit: usize, cells: Vec<FrameRow<B::Row>>) -> LogTransport<B>
-        requires n_bound { n ≤ 8 }
-        requires le_limit { 1 ≤ limit }
-        requires limit_in_bounds { n * limit ≤ vec_len cells }
+        requires at_most_eight { n ≤ 8 }
+        requires some_limit { 1 ≤ limit }
+        requires enough_cells { n * limit ≤ vec_len cells }
         ensures cells { result.cells ≡ cells }
         ensures meaning { log_meaning B.remade result ≡ fresh n limit }
     {

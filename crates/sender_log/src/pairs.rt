@@ -8,8 +8,8 @@ use body::Body;
 
 // Moves the receiver of a pair one frame nearer to the end of the log.
 pub(crate) fn move_on(behinds: &mut [usize], pair: usize)
-    requires pair_in_bounds { pair < length behinds.old }
-    requires pair_nonzero { 0 < slice_index behinds.old pair }
+    requires pair_there { pair < length behinds.old }
+    requires some_behind { 0 < slice_index behinds.old pair }
     ensures { behinds.new ≡ slice_set behinds.old pair (slice_index behinds.old pair - 1) }
 {
     behinds[pair] -= 1;

@@ -8,8 +8,8 @@ use body::Body;
 
 // The place `k` steps after `start`, in a circle.
 pub(crate) fn place_after(limit: usize, start: usize, k: usize) -> usize
-    requires start_lt_limit { start < limit }
-    requires k_le_limit { k ≤ limit }
+    requires start_below { start < limit }
+    requires steps_below { k ≤ limit }
     ensures value { result ≡ around limit start k }
     ensures within { result < limit }
 {
@@ -20,8 +20,8 @@ pub(crate) fn place_after(limit: usize, start: usize, k: usize) -> usize
 impl<B: Body> LogTransport<B> {
     // The place of a receiver that is so many frames behind the end of the sender's log.
     pub(crate) fn cursor(&self, sender: u32, behind: usize) -> usize
-        requires sender_lt_size { sender < self.now.size }
-        requires behind_le_limit { behind ≤ self.now.limit }
+        requires sender_there { sender < self.now.size }
+        requires behind_within { behind ≤ self.now.limit }
         ensures value { result ≡ cursor self.now.limit (slice_index self.now.ends sender) behind }
         ensures within { result < self.now.limit }
     {
@@ -30,8 +30,8 @@ impl<B: Body> LogTransport<B> {
 
     // The cell of a place in the sender's log.
     pub(crate) fn cell_index(&self, sender: u32, place: usize) -> usize
-        requires sender_lt_size { sender < self.now.size }
-        requires place_lt_limit { place < self.now.limit }
+        requires sender_there { sender < self.now.size }
+        requires place_there { place < self.now.limit }
         ensures value { result ≡ cell self.now.limit sender place }
         ensures within { result < vec_len self.now.cells }
     {

@@ -10,7 +10,7 @@ use Rattle.sender_log.proofs.state.LogTransport.append.Goals as goal
 pub place_after-requires : goal.place_after-requires
 place_after-requires g c =
     let u = c.fall_behind.new.self in
-    record { start_lt_limit = u.ends_ok c.args.frame.sender.value; k_le_limit = u.limit_ok }
+    record { start_below = u.ends_ok c.args.frame.sender.value; steps_below = u.limit_ok }
 
 pub invariant_of-self : goal.invariant_of-self
 invariant_of-self g c =
