@@ -17,4 +17,4 @@ pub use frame::Frame;
 pub use frame_kind::FrameKind;
 pub use frame_row::FrameRow;
 pub use payload::Payload;
-pub use printer_number::PrinterNumber;
+pub use printer_number::{PrinterCount, PrinterNumber};
