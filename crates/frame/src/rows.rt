@@ -59,53 +59,50 @@ fn content_to_row<B: Body>(content: Content<B>) -> Content<B::Row>
 fn content_from_row<B: Body>(content: Content<B::Row>) -> Option<Content<B>>
     ensures { result ≡ content_remade B.remade content }
 {
-    match content {
+    Some(match content {
         Content::Data {
             number,
             sequencer,
             role,
             body,
-        } => match B::from_row(body) {
-            Some(body) => Some(Content::Data {
-                number,
-                sequencer,
-                role,
-                body,
-            }),
-            None => None,
+        } => Content::Data {
+            number,
+            sequencer,
+            role,
+            body: B::from_row(body)?,
         },
         Content::Up {
             number,
             sequencer,
             role,
-        } => Some(Content::Up {
+        } => Content::Up {
             number,
             sequencer,
             role,
-        }),
+        },
         Content::Down {
             number,
             sequencer,
             role,
-        } => Some(Content::Down {
+        } => Content::Down {
             number,
             sequencer,
             role,
-        }),
-        Content::Ticket { of, number } => Some(Content::Ticket { of, number }),
+        },
+        Content::Ticket { of, number } => Content::Ticket { of, number },
         Content::Reassign {
             last,
             sent,
             sequencer,
             role,
-        } => Some(Content::Reassign {
+        } => Content::Reassign {
             last,
             sent,
             sequencer,
             role,
-        }),
-        Content::Clock => Some(Content::Clock),
-    }
+        },
+        Content::Clock => Content::Clock,
+    })
 }
 
 fn row_of<B: Body>(frame: Frame<B>) -> FrameRow<B::Row>
@@ -121,10 +118,8 @@ fn row_of<B: Body>(frame: Frame<B>) -> FrameRow<B::Row>
 fn frame_of<B: Body>(given: FrameRow<B::Row>) -> Option<Frame<B>>
     ensures { result ≡ frame_remade B.remade given }
 {
-    match content_from_row::<B>(given.content) {
-        Some(content) => Frame::new(given.sender, given.clock, content).ok(),
-        None => None,
-    }
+    let content = content_from_row::<B>(given.content)?;
+    Frame::new(given.sender, given.clock, content).ok()
 }
 
 impl<B: Body> Frame<B> {
