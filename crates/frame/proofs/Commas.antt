@@ -2,7 +2,7 @@
 use Rattle.std.proofs.Common.{◌≡◌, ℕ, ◌+◌, ◌-◌, ◌<◌, ◌≤◌, List, [], ◌∷◌, ◌++◌, length, get_or, take, drop, codes, sym, ap, ◌∙◌, arith}
 use Rattle.std.specs.List.{flat_map}
 use Rattle.std.proofs.lemmas.List.{flat_map_more, take_more, get_or-drop, length-drop, take_all}
-use Rattle.frames.specs.Texts.{led}
+use Rattle.frame.specs.Texts.{led}
 
 abbrev pub comma : List ℕ
 comma = codes ","
