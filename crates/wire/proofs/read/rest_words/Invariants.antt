@@ -1,0 +1,11 @@
+use Rattle.std.proofs.Common.{◌≡◌, [], length}
+use Rattle.wire.specs.Layout.{kind_count, kind_allows}
+use Rattle.wire.proofs.Filled.{read_on}
+use Rattle.wire.proofs.read.rest_words.Given as goal
+
+-- what the rest of the bytes gives behind the words so far is what all of them give
+abbrev pub invariant-loop : goal.invariant-loop
+invariant-loop g l =
+    (length l.words.items ≡ l.counter) ×
+    (read_on (kind_allows g.B.Body.allows l.kind) (kind_count g.B.Body.count l.kind) [] l.bytes ≡
+    read_on (kind_allows g.B.Body.allows l.kind) (kind_count g.B.Body.count l.kind) l.words.items l.bytes)
