@@ -23,13 +23,6 @@ pub struct Dump {
     pub block: Vec<u8>,
 }
 
-// What follows `name`, where the text begins with it.
-fn after_name<'a>(text: &'a [u8], name: &[u8]) -> Option<&'a [u8]>
-    ensures { option_map (λ rest. rest.now) result ≡ after name.now text.now }
-{
-    text.strip_prefix(name)
-}
-
 // The block that follows a kind's name: nothing, or a space and then hex.
 fn block_after(heap: Global, rest: &[u8]) -> Result<Vec<u8>, LineFault>
     ensures { Reads (block_after rest.now) vec_items result }
@@ -51,13 +44,13 @@ fn dump_of(heap: Global, kind: BodyKind, rest: &[u8]) -> Result<Dump, LineFault>
 fn read_text(heap: Global, text: &[u8]) -> Result<Dump, LineFault>
     ensures { Reads (text_means text.now) contents result }
 {
-    if let Some(rest) = after_name(text, b"change") {
-        return dump_of(heap, BodyKind::Change, rest);
+    if let Some(rest) = text.strip_prefix(b"change") {
+        dump_of(heap, BodyKind::Change, rest)
+    } else if let Some(rest) = text.strip_prefix(b"claim") {
+        dump_of(heap, BodyKind::Claim, rest)
+    } else {
+        Err(LineFault::NotHex)
     }
-    if let Some(rest) = after_name(text, b"claim") {
-        return dump_of(heap, BodyKind::Claim, rest);
-    }
-    Err(LineFault::NotHex)
 }
 
 // Reads one line of a dump, without its newline.
