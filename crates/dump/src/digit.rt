@@ -10,10 +10,12 @@ pub(crate) struct Digit {
     ghost small: { value < 16 },
 }
 
-// The digit that a character of either case is.
-pub(crate) fn digit_of(c: u8) -> Option<Digit>
-    ensures { option_map (λ d. d.value) result ≡ digit_value c }
-{
-    let value = char::from(c).to_digit(16)?;
-    Some(Digit { value: value as u8 })
+impl Digit {
+    // The digit that a character of either case is.
+    pub(crate) fn from_char(c: u8) -> Option<Digit>
+        ensures { option_map (λ d. d.value) result ≡ digit_value c }
+    {
+        let value = char::from(c).to_digit(16)?;
+        Some(Digit { value: value as u8 })
+    }
 }

@@ -4,7 +4,7 @@ ghost use Rattle.dump.specs.Reads.{Reads};
 ghost use Rattle.dump.specs.Hex.{digits_step, digits_of, bytes_of, hex_block};
 ghost use Rattle.dump.specs.Digits.{values, pair_byte};
 
-use crate::digit::{Digit, digit_of};
+use crate::digit::Digit;
 use crate::faults::LineFault;
 use std::alloc::Global;
 
@@ -15,7 +15,7 @@ const WORD_DIGITS: usize = 8;
 fn take_char(digits: &mut Vec<Digit>, c: u8) -> Result<(), LineFault>
     ensures { Reads (digits_step (Some (values digits.old.items)) c) (λ _. values digits.new.items) result }
 {
-    match digit_of(c) {
+    match Digit::from_char(c) {
         Some(digit) => digits.push(digit)?,
         None if c == b' ' && digits.len() % WORD_DIGITS == 0 => {}
         None => return Err(LineFault::NotHex),
@@ -45,12 +45,10 @@ fn byte_of(pair: &[Digit; 2]) -> u8
 fn bytes_of(heap: Global, digits: &[Digit]) -> Result<Vec<u8>, LineFault>
     ensures { Reads (bytes_of (values digits.now)) vec_items result }
 {
-    let (pairs, rest) = digits.as_chunks::<2>();
-    if rest.is_empty() {
-        Ok(pairs.iter().map(byte_of).collect(heap)?)
-    } else {
-        Err(LineFault::NotHex)
-    }
+    let (pairs, []) = digits.as_chunks::<2>() else {
+        return Err(LineFault::NotHex);
+    };
+    Ok(pairs.iter().map(byte_of).collect(heap)?)
 }
 
 // The block that `text` has in hex.
@@ -58,5 +56,5 @@ pub(crate) fn read_hex(heap: Global, text: &[u8]) -> Result<Vec<u8>, LineFault>
     ensures { Reads (hex_block text.now) vec_items result }
 {
     let digits = digits_of(heap, text)?;
-    bytes_of(heap, digits.as_slice())
+    bytes_of(heap, &digits)
 }
