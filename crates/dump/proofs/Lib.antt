@@ -1,2 +1,2 @@
-pub mod Digits
+pub mod Pairs
 pub mod ReadBack

@@ -16,11 +16,10 @@ abbrev nibbles : List ℕ → List ℕ
 nibbles [] = []
 nibbles (b ∷ bs) = b / 16 ∷ (b % 16 ∷ nibbles bs)
 
-digit_back : (d : ℕ) → d < 16 → digit_value (digit_char d) ≡ Some d
-digit_back d h = grind (arith, nat_tests)
-
 step_back : (ds : List ℕ) (d : ℕ) → d < 16 → digits_step (Some ds) (digit_char d) ≡ Some (ds ++ d ∷ [])
-step_back ds d h = ap (with_char ds (digit_char d)) (digit_back d h)
+step_back ds d h =
+    let read : digit_value (digit_char d) ≡ Some d = grind (arith, nat_tests) in
+    ap (with_char ds (digit_char d)) read
 
 digits_back : (ds bs : List ℕ) → AllByRecursion (λ b. b < 256) bs
     → fold digits_step (Some ds) (hex_of bs) ≡ Some (ds ++ nibbles bs)

@@ -1,4 +1,4 @@
-// A hex digit, and the byte that two of them make.
+// A hex digit.
 ghost use Rattle.std.specs.Prelude.{◌≡◌, ◌<◌};
 ghost use Rattle.std.specs.Option.{option_map};
 ghost use Rattle.dump.specs.Hex.{digit_value};

@@ -42,6 +42,7 @@ fn byte_of(pair: &[Digit; 2]) -> u8
 }
 
 // Each two digits as a byte, the high digit first.
+#[tactic(auto, using(crate::proofs::Pairs::bytes_of_even, crate::proofs::Pairs::bytes_of_odd))]
 fn bytes_of(heap: Global, digits: &[Digit]) -> Result<Vec<u8>, LineFault>
     ensures { Reads (bytes_of (values digits.now)) vec_items result }
 {

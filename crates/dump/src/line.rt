@@ -1,7 +1,6 @@
 // One line of a dump: its body kind and its block.
 ghost use Rattle.std.specs.Prelude.{◌≡◌, vec_items};
-ghost use Rattle.std.specs.Option.{option_map};
-ghost use Rattle.dump.specs.Lines.{after, block_after, of_kind, text_means, line_means, contents};
+ghost use Rattle.dump.specs.Lines.{block_after, of_kind, text_means, line_means, contents};
 ghost use Rattle.dump.specs.Reads.{Reads};
 
 use crate::faults::LineFault;

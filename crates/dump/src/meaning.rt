@@ -4,6 +4,7 @@ ghost use Rattle.dump.specs.Examples.{Examples};
 ghost use Rattle.dump.specs.Written.{ReadBack};
 
 // Always true: what it says of lines stands in its contract.
+#[tactic(auto, using(crate::proofs::ReadBack::read_back))]
 pub fn meaning_stands() -> bool
     ensures examples { Examples }
     ensures read_back { ReadBack }
