@@ -19,20 +19,20 @@ after c = record {
 }
 
 is-after : (c : goal.After-rule) → after c ≡
-    passed_on c.args.count (delay_in c.args.delays.now) c.args.self.now.me.value (printer_of c.args.self.now) c.args.ticket
+    passed_on (length c.args.delays.now.row.now) (delay_in c.args.delays.now.row.now) c.args.self.now.me.value (printer_of c.args.self.now) c.args.ticket
 is-after c =
     let t = c.args.self.now in
-    delivered c.args.count (delay_in c.args.delays.now) t.me.value (printer_of t) c.args.ticket
+    delivered (length c.args.delays.now.row.now) (delay_in c.args.delays.now.row.now) t.me.value (printer_of t) c.args.ticket
     c.args.kind (conf_of c.record.new.self) c.record-2.new.self c.rule.new.self
-    (holding_of c.pass_first.new.self) _ (length c.args.delays.now)
-    c.requires.kind_value c.requires.delays_len c.record.ensures c.record-2.ensures c.pass_first.ensures
+    (holding_of c.pass_first.new.self) _ (length c.args.delays.now.row.now)
+    c.requires.kind_value refl c.record_ensured c.record-2.ensures c.pass_first.ensures
     refl c.rule.ensures
 
 pub invariant_of-self : goal.invariant_of-self
 invariant_of-self c =
     let t = c.args.self.now in
     let s = subst (Sound t.me.value) (sym (is-after c))
-    (passed_sound c.args.count (delay_in c.args.delays.now) t.me.value (printer_of t) c.args.ticket c.requires.count_bound (number_small t) (sound t)) in
+    (passed_sound (length c.args.delays.now.row.now) (delay_in c.args.delays.now.row.now) t.me.value (printer_of t) c.args.ticket c.args.delays.now.few (number_small t) (sound t)) in
     record {
       length_ok = omega arith;
       sequencer_ok = s.sequencer;
