@@ -4,8 +4,9 @@
 mod backlog;
 mod holding;
 mod rows;
+mod storing;
 mod tickets;
 mod wanted;
 
 pub use backlog::Backlog;
-pub use rows::{Held, MessageRow, Stub, Ticket, TicketRow};
+pub use rows::{Held, MessageRow, Row, Stub, Ticket, TicketRow};

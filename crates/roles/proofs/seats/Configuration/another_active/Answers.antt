@@ -1,10 +1,10 @@
-use Rattle.std.proofs.Common.{rules, ◌&&◌, not, ◌==◌}
+use Rattle.std.proofs.Common.{refl, rules, ◌&&◌, not, ◌==◌}
 use borrow.Author.Tests.{tests}
 use Rattle.roles.specs.Configurations.{conf_of, is_active}
-use Rattle.roles.proofs.Ranges.{any_in_range}
+use Rattle.roles.proofs.Ranges.{any_below_range}
 use Rattle.roles.proofs.seats.Configuration.another_active.Goals as goal
 
 pub returns : goal.returns
 returns c =
-    any_in_range c.args.count.value (λ a. is_active (conf_of c.args.self.now) a && not (a == c.args.printer)) _ _ _ c.any.ensures.ran
+    any_below_range c.args.count.value (λ a. is_active (conf_of c.args.self.now) a && not (a == c.args.printer)) _ _ _ _ c.any.ensures.ran refl refl
     (λ x b q k. search (rules, tests))

@@ -1,8 +1,10 @@
-use Rattle.std.proofs.Common.{rules}
+use Rattle.std.proofs.Common.{refl, rules}
 use borrow.Author.Tests.{tests}
 use Rattle.roles.specs.Configurations.{conf_of, is_active}
-use Rattle.roles.proofs.Ranges.{any_in_range}
+use Rattle.roles.proofs.Ranges.{any_below_range}
 use Rattle.roles.proofs.seats.Configuration.any_active.Goals as goal
 
 pub returns : goal.returns
-returns c = any_in_range c.args.count.value (is_active (conf_of c.args.self.now)) _ _ _ c.any.ensures.ran (λ x b q k. search (rules, tests))
+returns c =
+    any_below_range c.args.count.value (is_active (conf_of c.args.self.now)) _ _ _ _ c.any.ensures.ran refl refl
+    (λ x b q k. search (rules, tests))
