@@ -1,5 +1,6 @@
 -- What is read of bytes is the frame that they were written of.
 use Rattle.std.proofs.Common.{◌≡◌, ℕ, suc, ◌+◌, ◌/◌, ◌%◌, ◌<◌, ◌≤◌, Bool, true, false, cond, leb, List, [], ◌∷◌, ◌++◌, length, take, drop, IfOk, Some, None, Ok, Err, Option, Result, sym, refl, ap, ◌∙◌, subst, ap₂, arith}
+use Rattle.std.specs.Option.{IsSome}
 use Rattle.std.proofs.lemmas.List.{get_or-drop, take_at}
 use Rattle.std.proofs.lemmas.Bool.{leb-true}
 use Rattle.std.proofs.lemmas.Bool.Decides.{nat_tests}
@@ -71,19 +72,25 @@ module _ {B : Type 0} (words : B → List ℕ) (allows : List ℕ → ℕ → Bo
       (t.0, t.1, q, ap₂ (λ k xs. frame_rebuilt rebuilt k xs) (sym t.1) (sym q) ∙ r)
 
   -- the frame that is rebuilt from the words that were read
-  pub rest_made : (kind : FrameKind) (bs ws : List ℕ) (o : Option (Frame B)) → Bytes bs →
+  rest_made : (kind : FrameKind) (bs ws : List ℕ) (o : Option (Frame B)) → Bytes bs →
       words_on (kind_allows allows kind) (kind_count count kind) [] (drop 4 bs) ≡ Ok ws → o ≡ frame_rebuilt rebuilt kind ws →
       (f : Frame B) × (o ≡ Some f) × RestReads words allows count kind bs (Ok f)
   rest_made kind bs ws o small e q =
       let m = words_rebuild kind (drop 4 bs) ws (bytes_drop 4 bs small) e in
       (m.0, q ∙ m.3, (m.1, e ∙ ap Ok (sym m.2)))
 
-  pub rest_some : (kind : FrameKind) (bs ws : List ℕ) (o : Option (Frame B)) (x : Frame B) → Bytes bs →
+  -- there is one
+  pub rest_there : (kind : FrameKind) (bs ws : List ℕ) (o : Option (Frame B)) → Bytes bs →
+      words_on (kind_allows allows kind) (kind_count count kind) [] (drop 4 bs) ≡ Ok ws → o ≡ frame_rebuilt rebuilt kind ws → IsSome o
+  rest_there kind bs ws o small e q =
+      subst IsSome (sym (rest_made kind bs ws o small e q).1) refl
+
+  pub rest_read : (kind : FrameKind) (bs ws : List ℕ) (o : Option (Frame B)) → Bytes bs →
       words_on (kind_allows allows kind) (kind_count count kind) [] (drop 4 bs) ≡ Ok ws → o ≡ frame_rebuilt rebuilt kind ws →
-      o ≡ Some x → RestReads words allows count kind bs (Ok x)
-  rest_some kind bs ws o x small e q r =
+      (f : Frame B) → o ≡ Some f → RestReads words allows count kind bs (Ok f)
+  rest_read kind bs ws o small e q f r =
       let m = rest_made kind bs ws o small e q in
-      subst (λ f. RestReads words allows count kind bs (Ok f)) (some_same (sym m.1 ∙ r)) m.2
+      subst (λ x. RestReads words allows count kind bs (Ok x)) (some_same (sym m.1 ∙ r)) m.2
 
   by_first : (bs : List ℕ) → 4 ≤ length bs →
       words_read allows count bs ≡ words_by_kind allows count (kind_named (word_at bs 0)) (drop 4 bs)

@@ -3,11 +3,10 @@ ghost use Rattle.std.specs.Prelude.{◌≡◌, ◌+◌, ◌^◌, ◌<◌, ◌≤
 ghost use Rattle.wire.specs.Bytes.{word_at};
 ghost use Rattle.wire.specs.Layout.{kind_count, kind_allows, frame_bytes};
 ghost use Rattle.wire.specs.Reading.{Reads};
-ghost use Rattle.wire.specs.Filling.{next_word, WordsRead, RestReads};
+ghost use Rattle.wire.specs.Filling.{next_word, Fills, RestReads};
 
 use crate::layout::{in_range, words_after};
 use crate::rebuild::frame_from_words;
-use arrayvec::ArrayVec;
 use body::{Body, WireFault, WireRefusal};
 use frame::{Frame, FrameKind};
 
@@ -41,34 +40,32 @@ fn next_word<B: Body>(kind: FrameKind, before: &[u32], bytes: &[u8]) -> Result<u
     }
 }
 
-// All words behind the kind, or the first fault.
-fn rest_words<B: Body>(
-    kind: FrameKind,
-    bytes: &[u8],
-) -> Result<ArrayVec<u32, MOST_WORDS>, WireFault>
-    ensures { WordsRead (kind_allows B.allows kind) (kind_count B.count kind) bytes.now result }
+// The words behind the kind, into a slice of their number.
+fn fill_words<B: Body>(kind: FrameKind, bytes: &[u8], words: &mut [u32]) -> Result<(), WireFault>
+    requires { length words.old ≡ kind_count B.count kind }
+    ensures { Fills (kind_allows B.allows kind) (kind_count B.count kind) bytes.now words.new result }
 {
-    let due = words_after::<B>(kind);
-    let mut words = ArrayVec::new();
-    for _ in 0..due {
-        words.push(next_word::<B>(kind, &words, bytes)?);
+    for n in 0..words.len() {
+        words[n] = next_word::<B>(kind, &words[..n], bytes)?;
     }
-    let byte = 4 + 4 * due;
+    let byte = 4 + 4 * words.len();
     if bytes.len() > byte {
         return Err(WireFault {
             refusal: WireRefusal::LeftOver,
             byte,
         });
     }
-    Ok(words)
+    Ok(())
 }
 
 // The frame of a kind. Words that are in range make one.
 fn read_rest<B: Body>(kind: FrameKind, bytes: &[u8]) -> Result<Frame<B>, WireFault>
     ensures { RestReads B.words B.allows B.count kind bytes.now result }
 {
-    let words = rest_words::<B>(kind, bytes)?;
-    Ok(frame_from_words::<B>(kind, &words).unwrap())
+    let mut buffer = [0; MOST_WORDS];
+    let words = &mut buffer[..words_after::<B>(kind)];
+    fill_words::<B>(kind, bytes, words)?;
+    Ok(frame_from_words::<B>(kind, words).unwrap())
 }
 
 // The frame that the bytes are, or the first fault among them. Bytes that read as a frame are what is written of it.
