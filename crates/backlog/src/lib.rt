@@ -2,6 +2,7 @@
 #![tactic(auto)]
 
 mod backlog;
+mod counting;
 mod holding;
 mod rows;
 mod storing;

@@ -32,7 +32,7 @@ impl PrinterTable {
         self.duty
             .record(me, &self.configuration, kind, ticket.sender);
         self.backlog.pass_first(sender, ticket.issuer);
-        let undelivered = self.backlog.messages[self.me.index()].count;
+        let undelivered = self.backlog.messages_held(self.me);
         self.duty.rule(me, &self.configuration, delays, undelivered);
         self.length += 1;
     }

@@ -32,11 +32,7 @@ impl Duty {
 }
 
 // A printer that has become active, with its new role number.
-fn promotion(
-    me: u32,
-    was_active: bool,
-    configuration: &Configuration,
-) -> Option<(u32, RoleNumber)>
+fn promotion(me: u32, was_active: bool, configuration: &Configuration) -> Option<(u32, RoleNumber)>
     ensures { result ≡ promotion (is_active (conf_of configuration.now) me && not was_active) (own_pair (conf_of configuration.now) me) }
 {
     if configuration.is_active(me) && !was_active {
@@ -70,7 +66,7 @@ impl PrinterTable {
         self.backlog.drop_messages(leaver);
         take_over(&mut self.backlog, self.me, promotion);
         self.duty.promote(promotion);
-        let undelivered = self.backlog.messages[self.me.index()].count;
+        let undelivered = self.backlog.messages_held(self.me);
         self.duty.rule(me, &self.configuration, delays, undelivered);
         self.length += 1;
     }

@@ -21,11 +21,7 @@ pub depart-requires : goal.depart-requires
 depart-requires g c =
     let room = room_left Nothing (length c.args.delays.now.row.now) (delay_in c.args.delays.now.row.now) c.args.self.now.me.value
     (desk (printer_of c.args.self.now) c.args.list.now c.args.shelf.now) _ (length c.args.list.now) c.pass_on.ensures.after c.requires.room in
-    record {
-      delays_len_bound = c.args.delays.now.few;
-      leaver_bound = c.requires.leaver_bound;
-      length_bound = omega arith;
-    }
+    omega arith
 
 pub returns : goal.returns
 returns g c =

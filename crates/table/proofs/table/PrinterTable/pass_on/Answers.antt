@@ -1,7 +1,7 @@
-use Rattle.std.proofs.Common.{length, sym, refl, ap, ◌∙◌, subst, arith}
+use Rattle.std.proofs.Common.{length, sym, ap, ◌∙◌, subst, arith}
 use Rattle.frame.specs.declared.PrinterNumber.{PrinterNumber}
 use Rattle.roles.specs.Nearest.{delay_in}
-use Rattle.table.specs.Desks.{desk}
+use Rattle.table.specs.Desks.{desk, next_to_pass}
 use Rattle.table.specs.Given.{Given}
 use Rattle.table.specs.Grown.{Grown}
 use Rattle.table.specs.Printers.{printer_of}
@@ -17,11 +17,13 @@ pass_one-requires g c =
 
 pub loop-ticket-preserved : goal.loop-ticket-preserved
 loop-ticket-preserved g c =
-    let me = ap (λ (p : PrinterNumber). p.value) c.loop-ticket.invariant.0 in (
+    let me = ap (λ (p : PrinterNumber). p.value) c.loop-ticket.invariant.0 in
+    let next = c.in-Some.ensures.answer ∙
+    ap (λ k. next_to_pass c.args.heed k c.loop-ticket.self.me.value (printer_of c.loop-ticket.self) (length c.loop-ticket.list)) c.count.ensures in (
       c.pass_one.ensures.me ∙ c.loop-ticket.invariant.0,
       pass_again c.args.heed (length c.args.delays.now.row.now) (delay_in c.args.delays.now.row.now) c.args.self.now.me.value
           c.loop-ticket.self.me.value _ (desk (printer_of c.loop-ticket.self) c.loop-ticket.list c.args.shelf.now) _ c.in-Some.ticket me
-          c.in-Some.ensures.there.1 c.in-Some.ensures.answer c.pass_one.ensures.after c.loop-ticket.invariant.1,
+          c.in-Some.ensures.there.1 next c.pass_one.ensures.after c.loop-ticket.invariant.1,
     )
 
 pub returns : goal.returns
@@ -29,7 +31,9 @@ returns g c =
     let me = ap (λ (p : PrinterNumber). p.value) c.loop-ticket.invariant.0 in
     let end = pass_ends c.args.heed (length c.args.delays.now.row.now) (delay_in c.args.delays.now.row.now) c.args.self.now.me.value
     c.loop-ticket.self.me.value _ (desk (printer_of c.loop-ticket.self) c.loop-ticket.list c.args.shelf.now) me
-    c.in_default.ensures.answer c.loop-ticket.invariant.1 in
+    (c.in_default.ensures.answer ∙
+    ap (λ k. next_to_pass c.args.heed k c.loop-ticket.self.me.value (printer_of c.loop-ticket.self) (length c.loop-ticket.list)) c.count.ensures)
+    c.loop-ticket.invariant.1 in
     record {
       after = end.0;
       me = c.loop-ticket.invariant.0;
