@@ -70,10 +70,10 @@ fn reassign_slots(
     requires slots_len { length slots.old ≡ 8 }
     ensures { Swept no_held (λ i. slice_index_or slots.old i no_held) (λ i. is_between last sent (number_at passed i)) (assign_to assigned) slots.new 8 }
 {
-    for place in 0..slots.len() {
+    for (place, held) in slots.iter_mut().enumerate() {
         let number = number_at(passed, place);
         if last < number && number <= sent {
-            slots[place].assigned = assigned;
+            held.assigned = assigned;
         }
     }
 }

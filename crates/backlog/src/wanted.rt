@@ -44,13 +44,9 @@ impl Backlog {
         ensures answer { option_map (λ m. (m.0.value, m.1)) result ≡ wanted_of count.value (holding_of self.now) to sender.value }
         ensures there { IfSome result (λ m. 1 ≤ m.1.0) }
     {
-        let number = self.numbers(sender).find(|number| self.wants(
-            count,
-            to,
-            sender,
-            MessageNumber(*number),
-        ))?;
-        Some((sender, MessageNumber(number)))
+        self.numbers(sender)
+            .find(|number| self.wants(count, to, sender, MessageNumber(*number)))
+            .map(|number| (sender, MessageNumber(number)))
     }
 
     // The same of the sender at a place in the circle of all senders.

@@ -1,5 +1,5 @@
 -- Functions from numbers: what a change at one place leaves, and what the tests below a number tell.
-use Rattle.std.proofs.Common.{◌≡◌, ℕ, zero, suc, ◌+◌, ◌-◌, ◌<◌, Bool, true, false, cond, ◌||◌, eqb, List, length, get_or, set, Some, None, Option, MatchOption, Decides, sym, refl, ap, ◌∙◌, inl, inr, add-one, arith}
+use Rattle.std.proofs.Common.{◌≡◌, ℕ, zero, suc, ◌+◌, ◌<◌, Bool, true, false, ◌||◌, eqb, List, length, get_or, set, Some, None, Option, MatchOption, Decides, sym, refl, ap, ◌∙◌, inl, inr, add-one, arith}
 use mathlib.Core.Path.{fun_ext}
 use Rattle.std.proofs.lemmas.List.{get_or-set_same, get_or-set_other}
 use Rattle.std.proofs.lemmas.Bool.{cond_both, or_from, cases_eq}
@@ -54,19 +54,6 @@ any_below_more n p = rw add-one refl
 -- one number more, which fails too
 pub none_below_more : (n : ℕ) (p : ℕ → Bool) → any_below n p ≡ false → p n ≡ false → any_below (n + 1) p ≡ false
 none_below_more n p h e = any_below_more n p ∙ or_from (p n) (any_below n p) e h
-
--- the highest, with one number more
-pub highest_more : (n : ℕ) (p : ℕ → Bool) → highest (n + 1) p ≡ cond (p n) (Some n) (highest n p)
-highest_more n p = rw add-one refl
-
--- the same, counted down
-pub highest_last : (n : ℕ) (p : ℕ → Bool) → 0 < n → highest n p ≡ cond (p (n - 1)) (Some (n - 1)) (highest (n - 1) p)
-highest_last n p h = let e : n ≡ n - 1 + 1 = omega arith in ap (λ m. highest m p) e ∙ highest_more (n - 1) p
-
--- the highest is below the bound, and passes the test
-pub highest_found : (n : ℕ) (p : ℕ → Bool) (h : ℕ) → highest n p ≡ Some h → (h < n) × (p h ≡ true)
-highest_found zero p h e = absurd (let z : ◌≡◌ {A = ℕ} 0 1 = cc in omega arith)
-highest_found (suc n) p h e = let f = highest_found n p h in grind arith
 
 -- what is found is the highest: it passes, and none above it does
 abbrev pub Highest : ℕ → (ℕ → Bool) → Option ℕ → Type 0

@@ -4,7 +4,7 @@ ghost use Rattle.roles.specs.Configurations.{conf_of, opening_conf, is_active, r
 ghost use Rattle.roles.specs.Functions.{any_below};
 
 use crate::seats::{Configuration, Rank, Seat};
-use frame::{PrinterCount, RoleNumber};
+use frame::{PrinterCount, PrinterNumber, RoleNumber};
 
 const NO_SEAT: Seat = Seat {
     rank: Rank::Removed,
@@ -76,9 +76,9 @@ impl Configuration {
     }
 
     // Whether a printer other than this one is active.
-    pub(crate) fn another_active(&self, count: PrinterCount, printer: u32) -> bool
-        ensures { result ≡ another_active count.value (conf_of self.now) printer }
+    pub(crate) fn another_active(&self, count: PrinterCount, printer: PrinterNumber) -> bool
+        ensures { result ≡ another_active count.value (conf_of self.now) printer.value }
     {
-        (0..count.value).any(|other| self.is_active(other) && other != printer)
+        (0..count.value).any(|other| self.is_active(other) && other != printer.value)
     }
 }

@@ -35,7 +35,7 @@ impl Configuration {
         requires { (conf_of self.old printer.value).role.0 < 4294967295 }
         ensures { conf_of self.new ≡ after_down count.value (conf_of self.old) printer.value }
     {
-        if self.another_active(count, printer.value) {
+        if self.another_active(count, printer) {
             self.appoint(printer, Rank::Passive);
         }
     }
@@ -44,12 +44,10 @@ impl Configuration {
     fn highest_remaining(&self, count: PrinterCount) -> Option<PrinterNumber>
         ensures { option_map (λ p. p.value) result ≡ highest count.value (λ a. remains (conf_of self.now a).rank) }
     {
-        for value in (0..count.value).rev() {
-            if self.remains(value) {
-                return Some(PrinterNumber { value });
-            }
-        }
-        None
+        let value = (0..count.value)
+            .rev()
+            .find(|printer| self.remains(*printer))?;
+        Some(PrinterNumber { value })
     }
 
     // If none is active, the highest that remains becomes active.

@@ -1,42 +1,41 @@
-use Rattle.std.proofs.Common.{◌≡◌, ◌+◌, ◌≤◌, ℕ, Bool, cond, IfSome, Some, None, Option, sym, ap, ◌∙◌, subst, rules, arith}
+use Rattle.std.proofs.Common.{◌≡◌, ◌+◌, ◌≤◌, ℕ, IfSome, Some, None, Option, sym, refl, ap, ◌∙◌, subst, rules, arith}
 use borrow.Author.Tests.{tests}
 use Rattle.std.specs.List.{find, range_with_len}
 use Rattle.std.specs.Option.{option_map}
 use Rattle.frame.specs.declared.MessageNumber.{MessageNumber}
+use Rattle.frame.specs.declared.PrinterNumber.{PrinterNumber}
 use Rattle.roles.proofs.Ranges.{find_in_range}
-use Rattle.backlog.specs.Firsts.{first_from}
 use Rattle.backlog.specs.Holdings.{holding_of}
 use Rattle.backlog.specs.Wanted.{wants}
 use Rattle.backlog.proofs.Searches.{found_first, found_above}
 use Rattle.backlog.proofs.backlog.Backlog.wanted_of.Goals as goal
 
-abbrev of : ℕ → ℕ → ℕ × MessageNumber
-of x m = (x, record { 0 = m })
+abbrev told : PrinterNumber × MessageNumber → ℕ × MessageNumber
+told m = (m.0.value, m.1)
 
--- of what is found, the message with its sender
-told : (x n k : ℕ) (p : ℕ → Bool) (o r : Option ℕ) → o ≡ r → o ≡ find p (range_with_len k n) →
-    (option_map (of x) r ≡ first_from n k (λ m. cond (p m) (Some (of x m)) None)) × IfSome r (λ m. k ≤ m)
-told x n k p o r e f = (
-  ap (option_map (of x)) (sym e ∙ f) ∙ found_first p (of x) n k,
-  subst (λ o. IfSome o (λ m. k ≤ m)) (sym f ∙ e) (found_above p n k),
-)
+-- a number that is found, as a message of its sender
+module _ (x : PrinterNumber) where
+  abbrev of : ℕ → PrinterNumber × MessageNumber
+  of m = (x, record { 0 = m })
 
-pub returns-in_err-number-clause-answer : goal.returns-in_err-number-clause-answer
-returns-in_err-number-clause-answer c =
-    let held = holding_of c.args.self.now in
-    let x = c.args.sender.value in
-    let row = held.messages x in
-    let p = wants c.args.count.value held c.args.to x in
-    let found = find_in_range (row.passed + 1) row.count p _ _ _ _ c.find.ensures.ran c.numbers.ensures.first c.numbers.ensures.end (λ x b q k. search (rules, tests)) in
-    let t = told x row.count (row.passed + 1) p c.find.result None c.in_err-number.was found in
-    ap (option_map _) c.from_residual.ensures ∙ t.0
+  both : (o : Option ℕ) → option_map told (option_map of o) ≡ option_map (λ m. told (of m)) o
+  both None = refl
+  both (Some m) = refl
+
+  from_one : (k : ℕ) (o : Option ℕ) → 1 ≤ k → IfSome o (λ m. k ≤ m) → IfSome (option_map of o) (λ m. 1 ≤ m.1.0)
+  from_one k None l h = tt
+  from_one k (Some m) l h = omega arith
 
 pub returns : goal.returns
 returns c =
     let held = holding_of c.args.self.now in
-    let x = c.args.sender.value in
-    let row = held.messages x in
-    let p = wants c.args.count.value held c.args.to x in
-    let found = find_in_range (row.passed + 1) row.count p _ _ _ _ c.find.ensures.ran c.numbers.ensures.first c.numbers.ensures.end (λ x b q k. search (rules, tests)) in
-    let t = told x row.count (row.passed + 1) p c.find.result (Some c.in_ok-number.number) c.in_ok-number.was found in
-    record { answer = t.0; there = omega (arith, t.1) }
+    let x = c.args.sender in
+    let row = held.messages x.value in
+    let p = wants c.args.count.value held c.args.to x.value in
+    let k = row.passed + 1 in
+    let found = find_in_range k row.count p _ _ _ _ c.find.ensures.ran c.numbers.ensures.first c.numbers.ensures.end (λ x b q k. search (rules, tests)) in
+    let made : c.map.result ≡ option_map (of x) (find p (range_with_len k row.count)) = search rules ∙ ap (option_map (of x)) found in
+    record {
+      answer = ap (option_map told) made ∙ both x _ ∙ found_first p (λ m. told (of x m)) row.count k;
+      there = subst (λ o. IfSome o (λ m. 1 ≤ m.1.0)) (sym made) (from_one x k _ (omega arith) (found_above p row.count k));
+    }

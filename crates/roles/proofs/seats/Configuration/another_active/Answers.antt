@@ -6,5 +6,5 @@ use Rattle.roles.proofs.seats.Configuration.another_active.Goals as goal
 
 pub returns : goal.returns
 returns c =
-    any_below_range c.args.count.value (λ a. is_active (conf_of c.args.self.now) a && not (a == c.args.printer)) _ _ _ _ c.any.ensures.ran refl refl
+    any_below_range c.args.count.value (λ a. is_active (conf_of c.args.self.now) a && not (a == c.args.printer.value)) _ _ _ _ c.any.ensures.ran refl refl
     (λ x b q k. search (rules, tests))
