@@ -1,7 +1,7 @@
 // What is held of one sender and of one issuer.
 ghost use Rattle.std.specs.Prelude.{◌≡◌, ◌≤◌, ⊤};
 
-use frame::{MessageNumber, PrinterNumber, RoleNumber, TicketNumber};
+use frame::{MessageNumber, RoleNumber, TicketNumber};
 use roles::RecordKind;
 use std::alloc::AllocError;
 
@@ -54,7 +54,7 @@ pub type TicketRow = Row<Stub, 16>;
 #[derive(Clone, Copy)]
 pub struct Ticket {
     pub number: TicketNumber,
-    pub issuer: PrinterNumber,
+    pub issuer: u32,
     pub sender: u32,
     pub message: MessageNumber,
 }

@@ -5,15 +5,14 @@ ghost use Rattle.backlog.specs.Tickets.{is_for, before, lesser, first_or, first_
 
 use crate::backlog::Backlog;
 use crate::rows::{Row, Stub, Ticket};
-use frame::{MessageNumber, PrinterCount, PrinterNumber};
+use frame::{MessageNumber, PrinterCount};
 
 impl Ticket {
     // Tickets stand by number, then by issuer.
     fn is_before(self, other: Ticket) -> bool
         ensures { result ≡ before self other }
     {
-        self.number < other.number
-            || (self.number == other.number && self.issuer.value < other.issuer.value)
+        self.number < other.number || (self.number == other.number && self.issuer < other.issuer)
     }
 
     // The one that stands first.
@@ -37,8 +36,8 @@ impl Stub {
 
 impl Row<Stub, 16> {
     // The first of this issuer's held tickets, if it stands before another.
-    fn first_or(&self, issuer: PrinterNumber, other: Option<Ticket>) -> Option<Ticket>
-        ensures { result ≡ first_or issuer.value (ticket_row self.now) other }
+    fn first_or(&self, issuer: u32, other: Option<Ticket>) -> Option<Ticket>
+        ensures { result ≡ first_or issuer (ticket_row self.now) other }
     {
         if self.count == 0 {
             return other;
@@ -71,14 +70,13 @@ impl Backlog {
         requires { issuer < 8 }
         ensures { result ≡ first_or issuer ((holding_of self.now).tickets issuer) other }
     {
-        let issuer = PrinterNumber { value: issuer };
-        self.tickets[issuer.index()].first_or(issuer, other)
+        self.tickets[issuer as usize].first_or(issuer, other)
     }
 
     // The first held ticket of all issuers.
     pub fn first_ticket(&self, count: PrinterCount) -> Option<Ticket>
         ensures answer { result ≡ first_ticket count.value (holding_of self.now) }
-        ensures there { IfSome result (λ t. (t.issuer.value < count.value) × (0 < ((holding_of self.now).tickets t.issuer.value).count)) }
+        ensures there { IfSome result (λ t. (t.issuer < count.value) × (0 < ((holding_of self.now).tickets t.issuer).count)) }
     {
         (0..count.value).fold(None, |first, issuer| self.first_or(issuer, first))
     }

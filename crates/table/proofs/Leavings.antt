@@ -77,21 +77,21 @@ module _ (n : ℕ) (delay : ℕ → ℕ) (me : ℕ) (p : Printer) (x : ℕ) wher
 
 -- a ticket that is next to be passed on is held, and there is a place for its record
 pub next_there : (heed : Heed) (n me : ℕ) (p : Printer) (places : ℕ) (t : Ticket) → next_to_pass heed n me p places ≡ Some t →
-    (t.issuer.value < n) × (0 < (p.holding.tickets t.issuer.value).count) × (p.length < places)
+    (t.issuer < n) × (0 < (p.holding.tickets t.issuer).count) × (p.length < places)
 next_there heed n me p places t e = by (ltb p.length places) refl (first_ticket n p.holding) (first_ticket_there n p.holding) e
   where
     by : (b : Bool) → ltb p.length places ≡ b → (o : Option Ticket) → There n p.holding o →
-        cond b (only_if (may_pass heed n me p) o) None ≡ Some t → (t.issuer.value < n) × (0 < (p.holding.tickets t.issuer.value).count) × (p.length < places)
+        cond b (only_if (may_pass heed n me p) o) None ≡ Some t → (t.issuer < n) × (0 < (p.holding.tickets t.issuer).count) × (p.length < places)
     by false r o h e = absurd (let z : ◌≡◌ {A = ℕ} 0 1 = cc in omega arith)
     by true r None h e = absurd (let z : ◌≡◌ {A = ℕ} 0 1 = cc in omega arith)
     by true r (Some u) h e = chosen (may_pass heed n me p u) e
       where
-        chosen : (m : Bool) → cond m (Some u) None ≡ Some t → (t.issuer.value < n) × (0 < (p.holding.tickets t.issuer.value).count) × (p.length < places)
+        chosen : (m : Bool) → cond m (Some u) None ≡ Some t → (t.issuer < n) × (0 < (p.holding.tickets t.issuer).count) × (p.length < places)
         chosen false e = absurd (let z : ◌≡◌ {A = ℕ} 0 1 = cc in omega arith)
         chosen true e =
             let q : u ≡ t = cc in
             let l = ltb-true p.length places r in
-            let k = subst (λ (v : Ticket). (v.issuer.value < n) × (0 < (p.holding.tickets v.issuer.value).count)) q h in
+            let k = subst (λ (v : Ticket). (v.issuer < n) × (0 < (p.holding.tickets v.issuer).count)) q h in
             (k.0, k.1, l)
 
 module _ {R : Type 0} (heed : Heed) (n : ℕ) (delay : ℕ → ℕ) (me : ℕ) where
@@ -105,7 +105,7 @@ module _ {R : Type 0} (heed : Heed) (n : ℕ) (delay : ℕ → ℕ) (me : ℕ) w
       one : (e : Desk R) (t : Ticket) → next_of heed n delay me e ≡ Some t → reach e ≡ reach d → reach (pass_one n delay me e t) ≡ reach d
       one e t found so_far =
           let k = next_there heed n me e.printer (length e.list) t found in
-          let f = tickets_held_pass n e.printer.holding t.sender t.issuer.value k.0 k.1 in
+          let f = tickets_held_pass n e.printer.holding t.sender t.issuer k.0 k.1 in
           omega arith
 
   -- so there is room for one record more

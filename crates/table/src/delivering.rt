@@ -19,6 +19,7 @@ impl PrinterTable {
     // The effect of one record: ticket and message are dropped, the configuration and the printer's own part change.
     fn deliver(&mut self, delays: &Delays, kind: RecordKind, ticket: Ticket)
         requires sender_bound { ticket.sender < 8 }
+        requires issuer_bound { ticket.issuer < 8 }
         requires length_bound { self.old.length < 65536 }
         requires kind_value { kind ≡ kind_held (printer_of self.old) ticket }
         ensures table { printer_of self.new ≡ passed_on (length delays.now.row.now) (delay_in delays.now.row.now) self.old.me.value (printer_of self.old) ticket }
@@ -31,7 +32,10 @@ impl PrinterTable {
         self.configuration.record(delays.count(), kind, sender);
         self.duty
             .record(me, &self.configuration, kind, ticket.sender);
-        self.backlog.pass_first(sender, ticket.issuer);
+        let issuer = PrinterNumber {
+            value: ticket.issuer,
+        };
+        self.backlog.pass_first(sender, issuer);
         let undelivered = self.backlog.messages_held(self.me);
         self.duty.rule(me, &self.configuration, delays, undelivered);
         self.length += 1;
@@ -69,6 +73,7 @@ impl PrinterTable {
         shelf: &[R],
     )
         requires sender_bound { ticket.sender < 8 }
+        requires issuer_bound { ticket.issuer < 8 }
         requires room { self.old.length < length list.old }
         requires list_len_bound { length list.old ≤ 65536 }
         ensures after { desk (printer_of self.new) list.new shelf.now ≡ pass_one (length delays.now.row.now) (delay_in delays.now.row.now) self.old.me.value (desk (printer_of self.old) list.old shelf.now) ticket }

@@ -19,7 +19,7 @@ pub enum Heed {
 fn qualifies(printer: u32, clock: TicketNumber, ticket: Ticket) -> bool
     ensures { result ≡ qualifies printer clock.0 ticket }
 {
-    ticket.number <= clock || (ticket.number.0 - clock.0 == 1 && ticket.issuer.value < printer)
+    ticket.number <= clock || (ticket.number.0 - clock.0 == 1 && ticket.issuer < printer)
 }
 
 impl Clocks {
@@ -72,7 +72,7 @@ impl PrinterTable {
         count: PrinterCount,
         places: usize,
     ) -> Option<Ticket>
-        ensures there { IfSome result (λ t. (t.sender < 8) × (self.now.length < places)) }
+        ensures there { IfSome result (λ t. (t.sender < 8) × (t.issuer < 8) × (self.now.length < places)) }
         ensures answer { result ≡ next_to_pass heed count.value self.now.me.value (printer_of self.now) places }
     {
         if self.length as usize >= places {

@@ -13,7 +13,7 @@ use Rattle.table.proofs.table.PrinterTable.pass_on.Goals as goal
 pub pass_one-requires : goal.pass_one-requires
 pass_one-requires g c =
     let t = c.in-Some.ensures.there in
-    record { sender_bound = t.0; room = t.1; list_len_bound = omega arith }
+    record { sender_bound = t.0; issuer_bound = t.1; room = t.2; list_len_bound = omega arith }
 
 pub loop-ticket-preserved : goal.loop-ticket-preserved
 loop-ticket-preserved g c =
@@ -23,7 +23,7 @@ loop-ticket-preserved g c =
       c.pass_one.ensures.me ∙ c.loop-ticket.invariant.0,
       pass_again c.args.heed (length c.args.delays.now.row.now) (delay_in c.args.delays.now.row.now) c.args.self.now.me.value
           c.loop-ticket.self.me.value _ (desk (printer_of c.loop-ticket.self) c.loop-ticket.list c.args.shelf.now) _ c.in-Some.ticket me
-          c.in-Some.ensures.there.1 next c.pass_one.ensures.after c.loop-ticket.invariant.1,
+          c.in-Some.ensures.there.2 next c.pass_one.ensures.after c.loop-ticket.invariant.1,
     )
 
 pub returns : goal.returns
