@@ -4,7 +4,6 @@
 mod changing;
 mod making;
 mod opening;
-mod payloads;
 mod posting;
 mod printer;
 mod refusing;

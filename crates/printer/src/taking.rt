@@ -9,6 +9,7 @@ ghost use Rattle.printer.specs.Taking.{hear, lacks_room, holding_after, shelf_af
 ghost use Rattle.printer.specs.Views.{number_of, kept_by, desk_of};
 
 use crate::printer::Printer;
+use crate::refusing::refused;
 use crate::shelving::lay;
 use backlog::{Backlog, Held, Stub};
 use body::Body;
@@ -142,40 +143,16 @@ impl Printer {
         ensures net { T.meaning transport.new ≡ (if is_ok result then after_take (T.meaning transport.old) from (number_of self.old) else T.meaning transport.old) }
         ensures lawful { Lawful (length delays.now) (desk_of self.old list.old shelf.old) (desk_of self.new list.new shelf.new) }
     {
-        self.take_oldest(from, delays, list, shelf, transport)
-    }
-
-    // Takes the oldest frame, and passes on what can be passed on then.
-    fn take_oldest<T: Transport>(
-        &mut self,
-        from: u32,
-        delays: &[u16],
-        list: &mut [Record<<T::Body as Body>::Row>],
-        shelf: &mut [<T::Body as Body>::Row],
-        transport: &mut T,
-    ) -> Result<(), PrinterFault>
-        requires from_bound { from < 8 }
-        requires from_other { from ≢ number_of self.old }
-        requires delays_len_bound { length delays.now < 9 }
-        requires list_len_bound { length list.old ≤ 65536 }
-        ensures answer { result ≡ take_answer (number_of self.old) from (kept_by self.old) (length list.old) (T.meaning transport.old) }
-        ensures after { desk_of self.new list.new shelf.new ≡ (if is_ok result then taken T.Body.Body.row (length delays.now) (delay_in delays.now) (number_of self.old) from (desk_of self.old list.old shelf.old) (oldest (T.meaning transport.old) from (number_of self.old)) else desk_of self.old list.old shelf.old) }
-        ensures number { number_of self.new ≡ number_of self.old }
-        ensures net { T.meaning transport.new ≡ (if is_ok result then after_take (T.meaning transport.old) from (number_of self.old) else T.meaning transport.old) }
-    {
         if self.table.length as usize >= list.len() {
-            return Err(self.refused(PrinterRefusal::ListFull));
+            return Err(refused(&self.table, PrinterRefusal::ListFull));
         }
         let me = self.table.me.value;
-        let Some(frame) = transport.look(from, me) else {
-            let fault = TransportFault {
-                refusal: TransportRefusal::NothingWaits,
-                printer: me,
-            };
-            return Err(PrinterFault::from(fault));
-        };
+        let frame = transport.look(from, me).ok_or(TransportFault {
+            refusal: TransportRefusal::NothingWaits,
+            printer: me,
+        })?;
         if lacks_room(&self.table.backlog, from, frame) {
-            return Err(self.refused(PrinterRefusal::NoRoom));
+            return Err(refused(&self.table, PrinterRefusal::NoRoom));
         }
         transport.take(from, me);
         receive(&mut self.table, from, frame);

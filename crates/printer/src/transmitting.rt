@@ -7,16 +7,16 @@ ghost use Rattle.table.specs.Dues.{due, FitsTicket};
 ghost use Rattle.table.specs.Printers.{printer_of};
 ghost use Rattle.printer.specs.Laws.{Lawful};
 ghost use Rattle.printer.specs.Posts.{own_frame, posting_answer, posted_at};
-ghost use Rattle.printer.specs.Transmitting.{repaid, issued, due_frame, after_due, ticket_answer, transmit_answer, transmitted, after_transmit};
+ghost use Rattle.printer.specs.Transmitting.{reassign_content, repaid, issued, due_frame, after_due, ticket_answer, transmit_answer, transmitted, after_transmit};
 ghost use Rattle.printer.specs.Views.{number_of, kept_by, desk_of};
 ghost use Rattle.table.specs.declared.Due.TheVariants.{Reassignment, Ticket, Clock};
 
-use crate::payloads::{clock_payload, reassign_payload, ticket_payload};
 use crate::posting::post;
 use crate::printer::Printer;
+use crate::refusing::refused;
 use backlog::Stub;
 use body::Body;
-use frame::{MessageNumber, TicketNumber};
+use frame::{Content, MessageNumber, TicketNumber};
 use refusals::{PrinterFault, PrinterRefusal};
 use table::{Due, Heed, PrinterTable, Record};
 use transport::Transport;
@@ -32,6 +32,20 @@ fn settle_debt(table: &mut PrinterTable)
     table.duty.owes = false;
 }
 
+// The reassignment of all own messages that are not delivered.
+fn reassignment<B: Copy>(table: &PrinterTable) -> Content<B>
+    ensures { result ≡ reassign_content table.now.me.value (printer_of table.now) }
+{
+    let row = &table.backlog.messages[table.me.value as usize];
+    let (sequencer, role) = table.duty.sequencer;
+    Content::Reassign {
+        last: row.passed,
+        sent: MessageNumber(row.passed.0 + row.count),
+        sequencer,
+        role,
+    }
+}
+
 // Posts the reassignment that is owed.
 fn repay<T: Transport>(table: &mut PrinterTable, transport: &mut T) -> Result<(), PrinterFault>
     requires { table.old.duty.owes ≡ true }
@@ -40,11 +54,7 @@ fn repay<T: Transport>(table: &mut PrinterTable, transport: &mut T) -> Result<()
     ensures me { table.new.me ≡ table.old.me }
     ensures net { T.meaning transport.new ≡ (if is_ok result then after_post (T.meaning transport.old) (due_frame table.old.me.value (printer_of table.old) Reassignment) else T.meaning transport.old) }
 {
-    let last = table.backlog.messages[table.me.value as usize].passed;
-    let sent = MessageNumber(last.0 + table.backlog.messages[table.me.value as usize].count);
-    let (sequencer, role) = table.duty.sequencer;
-    let payload = reassign_payload(table.clocks.own, last, sent, sequencer, role);
-    post(table, payload, transport)?;
+    post(table, table.clocks.own, reassignment(table), transport)?;
     settle_debt(table);
     Ok(())
 }
@@ -83,8 +93,11 @@ fn issue<T: Transport>(
     ensures net { T.meaning transport.new ≡ (if is_ok result then after_post (T.meaning transport.old) (due_frame table.old.me.value (printer_of table.old) (Ticket sender message)) else T.meaning transport.old) }
 {
     let clock = TicketNumber(table.clocks.own.0 + 1);
-    let payload = ticket_payload(clock, sender, message);
-    post(table, payload, transport)?;
+    let content = Content::Ticket {
+        of: sender,
+        number: message,
+    };
+    post(table, clock, content, transport)?;
     hold_ticket(table, sender, message);
     Ok(())
 }
@@ -96,8 +109,7 @@ fn tell_clock<T: Transport>(table: &mut PrinterTable, transport: &mut T) -> Resu
     ensures me { table.new.me ≡ table.old.me }
     ensures net { T.meaning transport.new ≡ (if is_ok result then after_post (T.meaning transport.old) (due_frame table.old.me.value (printer_of table.old) Clock) else T.meaning transport.old) }
 {
-    let payload = clock_payload(table.clocks.own);
-    post(table, payload, transport)
+    post(table, table.clocks.own, Content::Clock, transport)
 }
 
 // Posts a ticket, and passes on what can be passed on then.
@@ -117,12 +129,10 @@ fn ticket_and_pass<T: Transport>(
     ensures after { desk (printer_of table.new) list.new shelf.now ≡ (if is_ok result then after_due (length delays.now) (delay_in delays.now) table.old.me.value (desk (printer_of table.old) list.old shelf.now) (Ticket sender message) else desk (printer_of table.old) list.old shelf.now) }
     ensures me { table.new.me ≡ table.old.me }
     ensures net { T.meaning transport.new ≡ (if is_ok result then after_post (T.meaning transport.old) (due_frame table.old.me.value (printer_of table.old) (Ticket sender message)) else T.meaning transport.old) }
+    ensures lawful { Lawful (length delays.now) (desk (printer_of table.old) list.old shelf.now) (desk (printer_of table.new) list.new shelf.now) }
 {
     if table.clocks.own.0 >= u32::MAX {
-        return Err(PrinterFault::Printer {
-            refusal: PrinterRefusal::ClockSpent,
-            printer: table.me.value,
-        });
+        return Err(refused(table, PrinterRefusal::ClockSpent));
     }
     issue(table, sender, message, transport)?;
     table.pass_on(Heed::Clocks, delays, list, shelf);
@@ -146,29 +156,11 @@ impl Printer {
         ensures net { T.meaning transport.new ≡ (if is_ok result then after_transmit (number_of self.old) (kept_by self.old) (T.meaning transport.old) (due (length delays.now) (number_of self.old) (kept_by self.old)) else T.meaning transport.old) }
         ensures lawful { Lawful (length delays.now) (desk_of self.old list.old shelf.now) (desk_of self.new list.new shelf.now) }
     {
-        self.transmit_first(delays, list, shelf, transport)
-    }
-
-    // Posts the first frame that is due.
-    fn transmit_first<T: Transport>(
-        &mut self,
-        delays: &[u16],
-        list: &mut [Record<<T::Body as Body>::Row>],
-        shelf: &[<T::Body as Body>::Row],
-        transport: &mut T,
-    ) -> Result<(), PrinterFault>
-        requires delays_len_bound { length delays.now < 9 }
-        requires list_len_bound { length list.old ≤ 65536 }
-        ensures answer { result ≡ transmit_answer (length delays.now) (number_of self.old) (kept_by self.old) (length list.old) (T.meaning transport.old) }
-        ensures after { desk_of self.new list.new shelf.now ≡ (if is_ok result then transmitted (length delays.now) (delay_in delays.now) (number_of self.old) (desk_of self.old list.old shelf.now) (due (length delays.now) (number_of self.old) (kept_by self.old)) else desk_of self.old list.old shelf.now) }
-        ensures number { number_of self.new ≡ number_of self.old }
-        ensures net { T.meaning transport.new ≡ (if is_ok result then after_transmit (number_of self.old) (kept_by self.old) (T.meaning transport.old) (due (length delays.now) (number_of self.old) (kept_by self.old)) else T.meaning transport.old) }
-    {
         if self.table.length as usize >= list.len() {
-            return Err(self.refused(PrinterRefusal::ListFull));
+            return Err(refused(&self.table, PrinterRefusal::ListFull));
         }
         match self.table.due(delays.len() as u32) {
-            None => Err(self.refused(PrinterRefusal::NothingDue)),
+            None => Err(refused(&self.table, PrinterRefusal::NothingDue)),
             Some(Due::Reassignment) => repay(&mut self.table, transport),
             Some(Due::Ticket { sender, message }) => {
                 ticket_and_pass(
