@@ -78,26 +78,30 @@ fn hold_ticket(table: &mut PrinterTable, sender: u32, message: MessageNumber)
     table.duty.turn = sender + 1;
 }
 
-// Posts a ticket for a message, under a clock that is one higher.
+// Posts a ticket for a message, under a clock that is one higher, if there is one.
 fn issue<T: Transport>(
     table: &mut PrinterTable,
     sender: u32,
     message: MessageNumber,
     transport: &mut T,
 ) -> Result<(), PrinterFault>
-    requires fits_ticket { FitsTicket table.old.me.value (printer_of table.old) sender message }
-    requires clock_bound { table.old.clocks.own.0 < 4294967295 }
-    ensures answer { result ≡ posting_answer (T.meaning transport.old) table.old.me.value }
+    requires { FitsTicket table.old.me.value (printer_of table.old) sender message }
+    ensures answer { result ≡ ticket_answer table.old.me.value (printer_of table.old) (T.meaning transport.old) }
     ensures table { printer_of table.new ≡ (if is_ok result then issued table.old.me.value sender message (posted_at (table.old.clocks.own.0 + 1) (printer_of table.old)) else printer_of table.old) }
     ensures me { table.new.me ≡ table.old.me }
     ensures net { T.meaning transport.new ≡ (if is_ok result then after_post (T.meaning transport.old) (due_frame table.old.me.value (printer_of table.old) (Ticket sender message)) else T.meaning transport.old) }
 {
-    let clock = TicketNumber(table.clocks.own.0 + 1);
+    let clock = table
+        .clocks
+        .own
+        .0
+        .checked_add(1)
+        .ok_or(refused(table, PrinterRefusal::ClockSpent))?;
     let content = Content::Ticket {
         of: sender,
         number: message,
     };
-    post(table, clock, content, transport)?;
+    post(table, TicketNumber(clock), content, transport)?;
     hold_ticket(table, sender, message);
     Ok(())
 }
@@ -110,33 +114,6 @@ fn tell_clock<T: Transport>(table: &mut PrinterTable, transport: &mut T) -> Resu
     ensures net { T.meaning transport.new ≡ (if is_ok result then after_post (T.meaning transport.old) (due_frame table.old.me.value (printer_of table.old) Clock) else T.meaning transport.old) }
 {
     post(table, table.clocks.own, Content::Clock, transport)
-}
-
-// Posts a ticket, and passes on what can be passed on then.
-fn ticket_and_pass<T: Transport>(
-    table: &mut PrinterTable,
-    sender: u32,
-    message: MessageNumber,
-    delays: &[u16],
-    list: &mut [Record<<T::Body as Body>::Row>],
-    shelf: &[<T::Body as Body>::Row],
-    transport: &mut T,
-) -> Result<(), PrinterFault>
-    requires fits_ticket { FitsTicket table.old.me.value (printer_of table.old) sender message }
-    requires delays_len_bound { length delays.now < 9 }
-    requires list_len_bound { length list.old ≤ 65536 }
-    ensures answer { result ≡ ticket_answer table.old.me.value (printer_of table.old) (T.meaning transport.old) }
-    ensures after { desk (printer_of table.new) list.new shelf.now ≡ (if is_ok result then after_due (length delays.now) (delay_in delays.now) table.old.me.value (desk (printer_of table.old) list.old shelf.now) (Ticket sender message) else desk (printer_of table.old) list.old shelf.now) }
-    ensures me { table.new.me ≡ table.old.me }
-    ensures net { T.meaning transport.new ≡ (if is_ok result then after_post (T.meaning transport.old) (due_frame table.old.me.value (printer_of table.old) (Ticket sender message)) else T.meaning transport.old) }
-    ensures lawful { Lawful (length delays.now) (desk (printer_of table.old) list.old shelf.now) (desk (printer_of table.new) list.new shelf.now) }
-{
-    if table.clocks.own.0 >= u32::MAX {
-        return Err(refused(table, PrinterRefusal::ClockSpent));
-    }
-    issue(table, sender, message, transport)?;
-    table.pass_on(Heed::Clocks, delays, list, shelf);
-    Ok(())
 }
 
 impl Printer {
@@ -163,15 +140,9 @@ impl Printer {
             None => Err(refused(&self.table, PrinterRefusal::NothingDue)),
             Some(Due::Reassignment) => repay(&mut self.table, transport),
             Some(Due::Ticket { sender, message }) => {
-                ticket_and_pass(
-                    &mut self.table,
-                    sender,
-                    message,
-                    delays,
-                    list,
-                    shelf,
-                    transport,
-                )
+                issue(&mut self.table, sender, message, transport)?;
+                self.table.pass_on(Heed::Clocks, delays, list, shelf);
+                Ok(())
             }
             Some(Due::Clock) => tell_clock(&mut self.table, transport),
         }

@@ -1,5 +1,6 @@
-use Rattle.std.proofs.Common.{◌≡◌, ℕ, ◌∙◌, arith}
+use Rattle.std.proofs.Common.{◌≡◌, ℕ, ◌+◌, ap, ◌∙◌, arith, rules}
 use Rattle.table.specs.Printers.{Printer, printer_of}
+use Rattle.printer.specs.Posts.{posted_at}
 use Rattle.printer.specs.Transmitting.{issued}
 use Rattle.printer.proofs.transmitting.issue.Goals as goal
 
@@ -10,9 +11,13 @@ hold_ticket-requires-clause-room g c =
     let p = c.in_ok-post.ensures in
     let held = λ (me : ℕ) (r : Printer). (r.holding.tickets me).count in
     let same : held q.me.value (printer_of q) ≡ held t.me.value (printer_of t) = λ i. held (p.me i).value (p.table i) in
-    omega (arith, c.requires.fits_ticket.2)
+    omega (arith, c.requires.2)
 
 pub returns-clause-table : goal.returns-clause-table
 returns-clause-table g c =
+    let t = c.args.table.now in
     let p = c.in_ok-post.ensures in
-    c.hold_ticket.ensures.table ∙ (λ i. issued (p.me i).value c.args.sender c.args.message (p.table i))
+    let risen : c.in_ok-clock.clock ≡ t.clocks.own.0 + 1 = search rules in
+    c.hold_ticket.ensures.table ∙
+    ((λ i. issued (p.me i).value c.args.sender c.args.message (p.table i)) ∙
+    ap (λ k. issued t.me.value c.args.sender c.args.message (posted_at k (printer_of t))) risen)
