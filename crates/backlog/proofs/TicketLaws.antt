@@ -1,11 +1,22 @@
 -- What the definitions over issuers say of one issuer more.
-use Rattle.std.proofs.Common.{◌≡◌, ℕ, zero, suc, ◌+◌, ◌%◌, ◌<◌, ◌≤◌, false, eqb, IfSome, Some, None, Option, sym, refl, ap, inl, inr, add-one, arith}
-use Rattle.std.proofs.lemmas.Bool.{cond_both, cases_eq, eqb-false}
+use Rattle.std.proofs.Common.{◌≡◌, ℕ, zero, suc, ◌+◌, ◌%◌, ◌<◌, ◌≤◌, false, eqb, IfSome, Some, None, Option, sym, refl, ap, subst, inl, inr, add-one, arith}
+use Rattle.std.proofs.lemmas.Bool.{cond_both, cases_eq, cases_Bool, eqb-false}
+use Rattle.frame.specs.Frames.{printer_of}
+use Rattle.frame.specs.Ranges.{is_printer}
+use Rattle.frame.specs.declared.PrinterNumber.{PrinterNumber}
+use Rattle.frame.proofs.Parts.{printer_of_self}
 use Rattle.roles.proofs.Functions.{put_same, put_other}
 use Rattle.backlog.specs.Holdings.{Holding, Row, popped, pass_first}
-use Rattle.backlog.specs.Tickets.{first_ticket, first_or, lesser, before, issued_by, tickets_held}
+use Rattle.backlog.specs.Tickets.{first_ticket, first_or, first_of, lesser, before, issued_by, tickets_held}
 use Rattle.backlog.specs.declared.rows.Stub.{Stub}
 use Rattle.backlog.specs.declared.rows.Ticket.{Ticket}
+
+-- the number of a printer that there is
+printer_value : (s : ℕ) → IfSome (printer_of s) (λ p. p.value ≡ s)
+printer_value s = elim (cases_Bool (is_printer s)) [
+  | inl e ↦ subst (λ o. IfSome o (λ p. p.value ≡ s)) (sym (printer_of_self (record { value = s; ok = e }))) refl
+  | inr e ↦ grind arith
+]
 
 pub first_ticket_none : (h : Holding) → first_ticket 0 h ≡ None
 unfolding first_ticket
@@ -20,28 +31,34 @@ tickets_held_more b h = rw add-one refl
 
 -- of the first held ticket: it is of one of the issuers, of which some ticket is held
 abbrev pub There : ℕ → Holding → Option Ticket → Type 0
-There n h o = IfSome o (λ t. (t.issuer < n) × (0 < (h.tickets t.issuer).count))
+There n h o = IfSome o (λ t. (t.issuer.value < n) × (0 < (h.tickets t.issuer.value).count))
 
 pub first_ticket_there : (n : ℕ) (h : Holding) → There n h (first_ticket n h)
 unfolding first_ticket
 first_ticket_there zero h = tt
-first_ticket_there (suc b) h =
-    cond_both (eqb (h.tickets b).count 0) (first_ticket b h) (lesser own (first_ticket b h)) (There (suc b) h)
-    (λ _. weaker (first_ticket b h) (first_ticket_there b h)) (λ e. least e (first_ticket b h) (first_ticket_there b h))
+first_ticket_there (suc b) h = first (printer_of b) (printer_value b) (first_ticket b h) (first_ticket_there b h)
   where
-    own : Ticket
-    own = issued_by b ((h.tickets b).slot ((h.tickets b).passed % 16))
+    later : (o : Option Ticket) → There b h o → There (suc b) h o
+    later None l = tt
+    later (Some t) l = let m = l.0 in (omega arith, l.1)
 
-    weaker : (o : Option Ticket) → There b h o → There (suc b) h o
-    weaker None l = tt
-    weaker (Some t) l = let m = l.0 in (omega arith, l.1)
+    first : (p : Option PrinterNumber) → IfSome p (λ q. q.value ≡ b) → (o : Option Ticket) → There b h o → There (suc b) h (first_of p (h.tickets b) o)
+    first None e o l = later o l
+    first (Some p) e o l =
+        cond_both (eqb (h.tickets b).count 0) o (lesser own o) (There (suc b) h) (λ _. later o l) (λ f. least (mine f) o l)
+      where
+        own : Ticket
+        own = issued_by p ((h.tickets b).slot ((h.tickets b).passed % 16))
 
-    mine : eqb (h.tickets b).count 0 ≡ false → There (suc b) h (Some own)
-    mine e = let f = eqb-false (h.tickets b).count 0 e in (omega arith, grind arith)
+        mine : eqb (h.tickets b).count 0 ≡ false → There (suc b) h (Some own)
+        mine f =
+            let g = eqb-false (h.tickets b).count 0 f in
+            let c : (h.tickets p.value).count ≡ (h.tickets b).count = ap (λ m. (h.tickets m).count) e in
+            (omega arith, grind arith)
 
-    least : eqb (h.tickets b).count 0 ≡ false → (o : Option Ticket) → There b h o → There (suc b) h (lesser own o)
-    least e None l = mine e
-    least e (Some t) l = cond_both (before own t) (Some own) (Some t) (There (suc b) h) (λ _. mine e) (λ _. weaker (Some t) l)
+        least : There (suc b) h (Some own) → (u : Option Ticket) → There b h u → There (suc b) h (lesser own u)
+        least m None k = m
+        least m (Some t) k = cond_both (before own t) (Some own) (Some t) (There (suc b) h) (λ _. m) (λ _. later (Some t) k)
 
 -- one ticket of an issuer passed on
 pub tickets_held_pass : (n : ℕ) (h : Holding) (x b : ℕ) → b < n → 0 < (h.tickets b).count →

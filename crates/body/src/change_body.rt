@@ -8,29 +8,35 @@ ghost use Rattle.body.specs.ChangesLemmas.{change_written, change_of_self, chang
 ghost use Rattle.std.proofs.Common.{rules};
 
 use crate::change::{ChangeKind, ChangeRow, TemplateChange};
-use crate::faults::{WireFault, WireRefusal};
+use crate::faults::{UNFIT, WireFault};
 use crate::kind::Body;
 
-impl ChangeKind {
-    // The kind of a number, if there is one.
-    pub fn of(number: u32) -> Option<ChangeKind>
-        ensures { result ≡ change_named number }
-    {
+// The kind of a number, if there is one.
+impl TryFrom<u32> for ChangeKind {
+    type Error = WireFault;
+
+    ghost try_from_gives = { λ number r. r ≡ ok_or (change_named number) unfit };
+
+    fn try_from(number: u32) -> Result<ChangeKind, WireFault> {
         match number {
-            0 => Some(ChangeKind::Set),
-            1 => Some(ChangeKind::ClearField),
-            2 => Some(ChangeKind::DropTemplate),
-            _ => None,
+            0 => Ok(ChangeKind::Set),
+            1 => Ok(ChangeKind::ClearField),
+            2 => Ok(ChangeKind::DropTemplate),
+            _ => Err(UNFIT),
         }
     }
+}
 
-    // The number of the kind, as it stands in a body's first word.
-    pub fn number(self) -> u32
-        ensures { result ≡ change_number self }
-    {
-        self as u32
+// The number of a kind, as it stands in a body's first word.
+impl From<ChangeKind> for u32 {
+    ghost from_gives = { λ kind r. r ≡ change_number kind };
+
+    fn from(kind: ChangeKind) -> u32 {
+        kind as u32
     }
+}
 
+impl ChangeKind {
     fn uses(self, field: u32, value: u32) -> bool
         ensures { result ≡ uses self field value }
     {
@@ -52,18 +58,16 @@ impl TemplateChange {
     ) -> Result<TemplateChange, WireFault>
         ensures { result ≡ ok_or (change_of what template field value) unfit }
     {
-        match ChangeKind::of(what) {
-            Some(what) if what.uses(field, value) => Ok(TemplateChange {
-                what,
-                template,
-                field,
-                value,
-            }),
-            _ => Err(WireFault {
-                refusal: WireRefusal::OutOfRange,
-                byte: 0,
-            }),
+        let what = ChangeKind::try_from(what)?;
+        if !what.uses(field, value) {
+            return Err(UNFIT);
         }
+        Ok(TemplateChange {
+            what,
+            template,
+            field,
+            value,
+        })
     }
 
     // A field of a template gets a value.
@@ -138,7 +142,7 @@ impl Body for TemplateChange {
 
     fn word(self, i: usize) -> u32 {
         match i {
-            0 => self.what.number(),
+            0 => self.what.into(),
             1 => self.template,
             2 => self.field,
             3 => self.value,
@@ -157,17 +161,17 @@ impl Body for TemplateChange {
     }
 
     fn from_words(given: &[u32]) -> Option<TemplateChange> {
-        match given {
-            [what, template, field, value] => TemplateChange::new(
-                *what, *template, *field, *value,
-            ).ok(),
+        match *given {
+            [what, template, field, value] => {
+                TemplateChange::new(what, template, field, value).ok()
+            }
             _ => None,
         }
     }
 
     fn to_row(self) -> ChangeRow {
         ChangeRow {
-            what: self.what.number(),
+            what: self.what.into(),
             template: self.template,
             field: self.field,
             value: self.value,

@@ -8,7 +8,7 @@ ghost use Rattle.body.specs.ClaimsLemmas.{claim_written, claim_of_self, claim_pl
 ghost use Rattle.std.proofs.Common.{rules};
 
 use crate::claim::{ClaimRow, NumberClaim};
-use crate::faults::{WireFault, WireRefusal};
+use crate::faults::{UNFIT, WireFault};
 use crate::kind::Body;
 
 fn claim_fits(series: u32, count: u32) -> bool
@@ -24,10 +24,7 @@ impl NumberClaim {
         if claim_fits(series, count) {
             Ok(NumberClaim { series, count })
         } else {
-            Err(WireFault {
-                refusal: WireRefusal::OutOfRange,
-                byte: 0,
-            })
+            Err(UNFIT)
         }
     }
 }
@@ -82,8 +79,8 @@ impl Body for NumberClaim {
     }
 
     fn from_words(given: &[u32]) -> Option<NumberClaim> {
-        match given {
-            [series, count] => NumberClaim::new(*series, *count).ok(),
+        match *given {
+            [series, count] => NumberClaim::new(series, count).ok(),
             _ => None,
         }
     }

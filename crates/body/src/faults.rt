@@ -34,6 +34,12 @@ pub struct WireFault {
     pub byte: usize,
 }
 
+// What the making of a value outside its ranges answers.
+pub const UNFIT: WireFault = WireFault {
+    refusal: WireRefusal::OutOfRange,
+    byte: 0,
+};
+
 // As a program reports it: `refused 26 byte 8`.
 impl fmt::Display for WireFault {
     ghost output = { λ e. Some (fault_text e) };

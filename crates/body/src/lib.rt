@@ -10,5 +10,5 @@ mod kind;
 
 pub use change::{ChangeKind, ChangeRow, TemplateChange};
 pub use claim::{ClaimRow, NumberClaim};
-pub use faults::{WireFault, WireRefusal};
+pub use faults::{UNFIT, WireFault, WireRefusal};
 pub use kind::Body;

@@ -1,5 +1,7 @@
 -- The kinds of frames and their numbers.
 use Rattle.std.specs.Prelude.{ℕ, cond, Some, None, Option, ◌==◌}
+use Rattle.body.specs.declared.WireFault.{WireFault}
+use Rattle.body.specs.declared.WireRefusal.TheVariants.{UnknownKind}
 use Rattle.frame.specs.declared.frame_kind.FrameKind.{FrameKind}
 use Rattle.frame.specs.declared.frame_kind.FrameKind.TheVariants.{Data, Up, Down, Ticket, Reassign, Clock}
 
@@ -15,3 +17,7 @@ abbrev pub kind_named : ℕ → Option FrameKind
 kind_named k =
     cond (k == 0) (Some Data) (cond (k == 1) (Some Up) (cond (k == 2) (Some Down)
     (cond (k == 3) (Some Ticket) (cond (k == 4) (Some Reassign) (cond (k == 5) (Some Clock) None)))))
+
+-- a kind is a frame's first word
+abbrev pub no_such_kind : WireFault
+no_such_kind = record { refusal = UnknownKind; byte = 0 }

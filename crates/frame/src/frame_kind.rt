@@ -1,6 +1,9 @@
 // The kinds of frames.
 ghost use Rattle.std.specs.Prelude.{◌≡◌};
-ghost use Rattle.frame.specs.Kinds.{kind_number, kind_named};
+ghost use Rattle.std.specs.Option.{ok_or};
+ghost use Rattle.frame.specs.Kinds.{kind_number, kind_named, no_such_kind};
+
+use body::{WireFault, WireRefusal};
 
 // What a frame tells. The numbers are those of the wire.
 #[derive(Clone, Copy, PartialEq, Eq, Debug)]
@@ -19,26 +22,32 @@ pub enum FrameKind {
     Clock = 5,
 }
 
-impl FrameKind {
-    // The kind of a number, if there is one.
-    pub fn of(number: u32) -> Option<FrameKind>
-        ensures { result ≡ kind_named number }
-    {
+// The kind of a number, as it stands in a frame's first word.
+impl TryFrom<u32> for FrameKind {
+    type Error = WireFault;
+
+    ghost try_from_gives = { λ number r. r ≡ ok_or (kind_named number) no_such_kind };
+
+    fn try_from(number: u32) -> Result<FrameKind, WireFault> {
         match number {
-            0 => Some(FrameKind::Data),
-            1 => Some(FrameKind::Up),
-            2 => Some(FrameKind::Down),
-            3 => Some(FrameKind::Ticket),
-            4 => Some(FrameKind::Reassign),
-            5 => Some(FrameKind::Clock),
-            _ => None,
+            0 => Ok(FrameKind::Data),
+            1 => Ok(FrameKind::Up),
+            2 => Ok(FrameKind::Down),
+            3 => Ok(FrameKind::Ticket),
+            4 => Ok(FrameKind::Reassign),
+            5 => Ok(FrameKind::Clock),
+            _ => Err(WireFault {
+                refusal: WireRefusal::UnknownKind,
+                byte: 0,
+            }),
         }
     }
+}
 
-    // The number of the kind, as it stands in a frame's first word.
-    pub fn number(self) -> u32
-        ensures { result ≡ kind_number self }
-    {
-        self as u32
+impl From<FrameKind> for u32 {
+    ghost from_gives = { λ kind r. r ≡ kind_number kind };
+
+    fn from(kind: FrameKind) -> u32 {
+        kind as u32
     }
 }

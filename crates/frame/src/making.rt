@@ -12,13 +12,7 @@ use crate::frame::Frame;
 use crate::frame_kind::FrameKind;
 use crate::payload::Payload;
 use crate::printer_number::PrinterNumber;
-use body::{WireFault, WireRefusal};
-
-// What the making of a value outside its ranges answers.
-const UNFIT: WireFault = WireFault {
-    refusal: WireRefusal::OutOfRange,
-    byte: 0,
-};
+use body::{UNFIT, WireFault};
 
 fn is_printer(value: u32) -> bool
     ensures { result ≡ is_printer value }
@@ -48,13 +42,13 @@ impl<B: Copy> Content<B> {
                 number,
                 sequencer,
                 ..
-            } => 1 <= number.0 && sequencer <= 7,
-            Content::Up {
+            }
+            | Content::Up {
                 number,
                 sequencer,
                 ..
-            } => 1 <= number.0 && sequencer <= 7,
-            Content::Down {
+            }
+            | Content::Down {
                 number,
                 sequencer,
                 ..

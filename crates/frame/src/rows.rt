@@ -59,72 +59,50 @@ fn content_to_row<B: Body>(content: Content<B>) -> Content<B::Row>
 fn content_from_row<B: Body>(content: Content<B::Row>) -> Option<Content<B>>
     ensures { result ≡ content_remade B.remade content }
 {
-    match content {
+    Some(match content {
         Content::Data {
             number,
             sequencer,
             role,
             body,
-        } => match B::from_row(body) {
-            Some(body) => Some(Content::Data {
-                number,
-                sequencer,
-                role,
-                body,
-            }),
-            None => None,
+        } => Content::Data {
+            number,
+            sequencer,
+            role,
+            body: B::from_row(body)?,
         },
         Content::Up {
             number,
             sequencer,
             role,
-        } => Some(Content::Up {
+        } => Content::Up {
             number,
             sequencer,
             role,
-        }),
+        },
         Content::Down {
             number,
             sequencer,
             role,
-        } => Some(Content::Down {
+        } => Content::Down {
             number,
             sequencer,
             role,
-        }),
-        Content::Ticket { of, number } => Some(Content::Ticket { of, number }),
+        },
+        Content::Ticket { of, number } => Content::Ticket { of, number },
         Content::Reassign {
             last,
             sent,
             sequencer,
             role,
-        } => Some(Content::Reassign {
+        } => Content::Reassign {
             last,
             sent,
             sequencer,
             role,
-        }),
-        Content::Clock => Some(Content::Clock),
-    }
-}
-
-fn row_of<B: Body>(frame: Frame<B>) -> FrameRow<B::Row>
-    ensures { result ≡ frame_row B.Body.row frame }
-{
-    FrameRow {
-        sender: frame.sender.value,
-        clock: frame.payload.clock,
-        content: content_to_row(frame.payload.content),
-    }
-}
-
-fn frame_of<B: Body>(given: FrameRow<B::Row>) -> Option<Frame<B>>
-    ensures { result ≡ frame_remade B.remade given }
-{
-    match content_from_row::<B>(given.content) {
-        Some(content) => Frame::new(given.sender, given.clock, content).ok(),
-        None => None,
-    }
+        },
+        Content::Clock => Content::Clock,
+    })
 }
 
 impl<B: Body> Frame<B> {
@@ -133,7 +111,11 @@ impl<B: Body> Frame<B> {
         ensures value { result ≡ frame_row B.Body.row self }
         ensures again { frame_remade B.remade result ≡ Some self }
     {
-        row_of(self)
+        FrameRow {
+            sender: self.sender.value,
+            clock: self.payload.clock,
+            content: content_to_row(self.payload.content),
+        }
     }
 
     // The frame of a row; none of a row that no frame gives.
@@ -141,6 +123,7 @@ impl<B: Body> Frame<B> {
         ensures value { result ≡ frame_remade B.remade given }
         ensures plain { IfSome result (λ f. frame_row B.Body.row f ≡ given) }
     {
-        frame_of::<B>(given)
+        let content = content_from_row::<B>(given.content)?;
+        Frame::new(given.sender, given.clock, content).ok()
     }
 }

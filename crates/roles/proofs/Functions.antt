@@ -1,8 +1,8 @@
 -- Functions from numbers: what a change at one place leaves, and what the tests below a number tell.
-use Rattle.std.proofs.Common.{◌≡◌, ℕ, zero, suc, ◌+◌, ◌-◌, ◌<◌, Bool, true, false, cond, ◌||◌, eqb, List, length, get_or, set, Some, Decides, refl, ap, ◌∙◌, add-one, arith}
+use Rattle.std.proofs.Common.{◌≡◌, ℕ, zero, suc, ◌+◌, ◌-◌, ◌<◌, Bool, true, false, cond, ◌||◌, eqb, List, length, get_or, set, Some, None, Option, MatchOption, Decides, sym, refl, ap, ◌∙◌, inl, inr, add-one, arith}
 use mathlib.Core.Path.{fun_ext}
 use Rattle.std.proofs.lemmas.List.{get_or-set_same, get_or-set_other}
-use Rattle.std.proofs.lemmas.Bool.{cond_both, or_from}
+use Rattle.std.proofs.lemmas.Bool.{cond_both, or_from, cases_eq}
 use Rattle.std.proofs.lemmas.Bool.Decides.{Decides-below_or, nat_tests}
 use Rattle.roles.specs.Functions.{put, any_below, highest}
 
@@ -67,3 +67,19 @@ highest_last n p h = let e : n ≡ n - 1 + 1 = omega arith in ap (λ m. highest 
 pub highest_found : (n : ℕ) (p : ℕ → Bool) (h : ℕ) → highest n p ≡ Some h → (h < n) × (p h ≡ true)
 highest_found zero p h e = absurd (let z : ◌≡◌ {A = ℕ} 0 1 = cc in omega arith)
 highest_found (suc n) p h e = let f = highest_found n p h in grind arith
+
+-- what is found is the highest: it passes, and none above it does
+abbrev pub Highest : ℕ → (ℕ → Bool) → Option ℕ → Type 0
+Highest n p r = MatchOption r ((k : ℕ) → k < n → p k ≡ false) (λ h. (h < n) × (p h ≡ true) × ((k : ℕ) → h < k → k < n → p k ≡ false))
+
+pub highest_is : (n : ℕ) (p : ℕ → Bool) (r : Option ℕ) → Highest n p r → r ≡ highest n p
+highest_is zero p None l = refl
+highest_is zero p (Some h) l = absurd (omega (arith, l.0))
+highest_is (suc n) p None l =
+    let i = highest_is n p None (λ k h. l k (omega arith)) in
+    let e = l n (omega arith) in grind arith
+highest_is (suc n) p (Some h) l = elim (cases_eq h n) [
+  | inl e ↦ let f : p n ≡ true = sym (ap p e) ∙ l.1 in grind arith
+  | inr e ↦ let i = highest_is n p (Some h) (omega (arith, l.0), l.1, λ k a b. l.2 k a (omega arith)) in
+      let f = l.2 n (omega (arith, l.0)) (omega arith) in grind arith
+]

@@ -4,7 +4,7 @@ ghost use Rattle.roles.specs.Configurations.{conf_of, opening_conf, is_active, r
 ghost use Rattle.roles.specs.Functions.{any_below};
 
 use crate::seats::{Configuration, Rank, Seat};
-use frame::RoleNumber;
+use frame::{PrinterCount, RoleNumber};
 
 const NO_SEAT: Seat = Seat {
     rank: Rank::Removed,
@@ -69,26 +69,16 @@ impl Configuration {
     }
 
     // Whether any printer is active.
-    pub(crate) fn any_active(&self, count: u32) -> bool
-        ensures { result ≡ any_below count (is_active (conf_of self.now)) }
+    pub(crate) fn any_active(&self, count: PrinterCount) -> bool
+        ensures { result ≡ any_below count.value (is_active (conf_of self.now)) }
     {
-        for printer in 0..count {
-            if self.is_active(printer) {
-                return true;
-            }
-        }
-        false
+        (0..count.value).any(|printer| self.is_active(printer))
     }
 
     // Whether a printer other than this one is active.
-    pub(crate) fn another_active(&self, count: u32, printer: u32) -> bool
-        ensures { result ≡ another_active count (conf_of self.now) printer }
+    pub(crate) fn another_active(&self, count: PrinterCount, printer: u32) -> bool
+        ensures { result ≡ another_active count.value (conf_of self.now) printer }
     {
-        for other in 0..count {
-            if self.is_active(other) && other != printer {
-                return true;
-            }
-        }
-        false
+        (0..count.value).any(|other| self.is_active(other) && other != printer)
     }
 }

@@ -25,7 +25,7 @@ module _ (n : ℕ) (delay : ℕ → ℕ) (me : ℕ) (p : Printer) (t : Ticket) w
   -- what each part became is what passing on says
   pub delivered : (kind : RecordKind) (c : Conf) (d e : Duty) (h : Holding) (undelivered m : ℕ) →
       kind ≡ kind_held p t → m ≡ n → c ≡ changed n p.conf kind t.sender → d ≡ duty_after me c kind t.sender p.duty →
-      h ≡ pass_first p.holding t.sender t.issuer → undelivered ≡ (h.messages me).count → e ≡ ruled m delay me c undelivered d →
+      h ≡ pass_first p.holding t.sender t.issuer.value → undelivered ≡ (h.messages me).count → e ≡ ruled m delay me c undelivered d →
       record { clocks = p.clocks; duty = e; conf = c; holding = h; length = p.length + 1 } ≡ passed_on n delay me p t
   delivered kind c d e h undelivered m ek em ec ed eh eu ee =
       let c' = ec ∙ ap (λ k. changed n p.conf k t.sender) ek in
@@ -77,7 +77,7 @@ passed_sound n delay me p t small few s = record {
   turn = s.turn;
   roles = changed_bound n p.conf kind t.sender p.length s.roles;
   messages = passed_bound p.holding.messages t.sender p.length s.messages;
-  tickets = passed_bound p.holding.tickets t.issuer p.length s.tickets;
+  tickets = passed_bound p.holding.tickets t.issuer.value p.length s.tickets;
   own = count_bound p.holding.messages t.sender me 7 s.own;
   owes = owes_some n delay me c u d;
 }
@@ -92,4 +92,4 @@ passed_sound n delay me p t small few s = record {
     d = duty_after me c kind t.sender p.duty
 
     u : ℕ
-    u = ((pass_first p.holding t.sender t.issuer).messages me).count
+    u = ((pass_first p.holding t.sender t.issuer.value).messages me).count

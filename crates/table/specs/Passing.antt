@@ -18,7 +18,7 @@ use Rattle.table.specs.declared.passing.Heed.TheVariants.{Clocks, Nothing}
 -- printer a, whose clock was heard at k, can issue no ticket before this one any more: its clock has come to the
 -- ticket's number, or is one less and its ticket of that number would stand behind
 abbrev pub qualifies : ℕ → ℕ → Ticket → Bool
-qualifies a k t = nat_le t.number.0 k || (k + 1 == t.number.0 && nat_lt t.issuer a)
+qualifies a k t = nat_le t.number.0 k || (k + 1 == t.number.0 && nat_lt t.issuer.value a)
 
 -- the clock of each printer, as far as it is known: the own one, or the one heard
 abbrev pub known_clock : ℕ → Hearing → ℕ → ℕ
@@ -102,7 +102,7 @@ delivered_as n delay me p t kind c h = record {
 
 abbrev pub delivered_by : ℕ → (ℕ → ℕ) → ℕ → Printer → Ticket → RecordKind → Printer
 delivered_by n delay me p t kind =
-    delivered_as n delay me p t kind (changed n p.conf kind t.sender) (pass_first p.holding t.sender t.issuer)
+    delivered_as n delay me p t kind (changed n p.conf kind t.sender) (pass_first p.holding t.sender t.issuer.value)
 
 abbrev pub passed_on : ℕ → (ℕ → ℕ) → ℕ → Printer → Ticket → Printer
 passed_on n delay me p t = delivered_by n delay me p t (kind_held p t)

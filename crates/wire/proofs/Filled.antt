@@ -1,6 +1,6 @@
 -- One turn of the reader, and its end.
-use Rattle.std.proofs.Common.{◌≡◌, ℕ, ◌+◌, ◌*◌, ◌<◌, ◌≤◌, Bool, true, false, cond, eqb, leb, List, [], ◌∷◌, ◌++◌, length, get_or, take, drop, set, Ok, Err, Result, sym, refl, ap, ◌∙◌, subst, arith}
-use Rattle.std.proofs.lemmas.List.{drop_more, length-drop, drop_all, length-take-le, take_more_set}
+use Rattle.std.proofs.Common.{◌≡◌, ℕ, ◌+◌, ◌<◌, ◌≤◌, Bool, true, false, cond, eqb, leb, List, [], ◌∷◌, ◌++◌, length, get_or, drop, Ok, Err, Result, sym, refl, ap, ◌∙◌, subst, arith}
+use Rattle.std.proofs.lemmas.List.{drop_more, length-drop, drop_all, length_push}
 use Rattle.std.proofs.lemmas.Bool.{eq-eqb, ne_eqb, cond-true, cond-false, leb-true, leb-false}
 use Rattle.body.specs.declared.WireFault.{WireFault}
 use Rattle.body.specs.declared.WireRefusal.TheVariants.{EndsTooSoon, LeftOver}
@@ -18,6 +18,10 @@ drop_four bs i h =
     p ∙ ap (λ xs. get_or bs i 0 ∷ xs) (q ∙ ap (λ xs. get_or bs (i + 1) 0 ∷ xs) (r ∙ ap (λ xs. get_or bs (i + 2) 0 ∷ xs) s))
 
 module _ (allows : List ℕ → ℕ → Bool) (due : ℕ) where
+  -- what the bytes behind these words give
+  abbrev pub read_on : List ℕ → List ℕ → Result (List ℕ) WireFault
+  read_on before bs = words_on allows due before (drop (place before) bs)
+
   -- too few bytes for a word that is due
   cut_off : (before xs : List ℕ) → length xs < 4 → (length before ≡ due → ⊥) →
       words_on allows due before xs ≡ Err (record { refusal = EndsTooSoon; byte = place before })
@@ -38,9 +42,8 @@ module _ (allows : List ℕ → ℕ → Bool) (due : ℕ) where
 
   -- the next word, read or refused
   abbrev After : List ℕ → List ℕ → Result ℕ WireFault → Type 0
-  After before bs (Ok w) =
-      words_on allows due before (drop (place before) bs) ≡ words_on allows due (before ++ w ∷ []) (drop (place before + 4) bs)
-  After before bs (Err e) = words_on allows due before (drop (place before) bs) ≡ Err e
+  After before bs (Ok w) = read_on before bs ≡ read_on (before ++ w ∷ []) bs
+  After before bs (Err e) = read_on before bs ≡ Err e
 
   judged : (before bs : List ℕ) → place before + 4 ≤ length bs → (length before ≡ due → ⊥) → (t : Bool) →
       allows before (word_at bs (place before)) ≡ t →
@@ -48,7 +51,10 @@ module _ (allows : List ℕ → ℕ → Bool) (due : ℕ) where
   unfolding words_on
   judged before bs h n true p =
       ap (words_on allows due before) (drop_four bs (place before) h) ∙
-      (cond-false (eqb (length before) due) _ _ (ne_eqb (length before) due n) ∙ cond-true (allows before (word_at bs (place before))) _ _ p)
+      (cond-false (eqb (length before) due) _ _ (ne_eqb (length before) due n) ∙
+      (cond-true (allows before (word_at bs (place before))) _ _ p ∙
+      ap (λ k. words_on allows due (before ++ word_at bs (place before) ∷ []) (drop k bs))
+      (omega (arith, length_push before (word_at bs (place before))))))
   judged before bs h n false p =
       ap (words_on allows due before) (drop_four bs (place before) h) ∙
       (cond-false (eqb (length before) due) _ _ (ne_eqb (length before) due n) ∙ cond-false (allows before (word_at bs (place before))) _ _ p)
@@ -69,7 +75,7 @@ module _ (allows : List ℕ → ℕ → Bool) (due : ℕ) where
       subst (λ x. After before bs x) (sym e) (by_room before bs n (leb (place before + 4) (length bs)) refl)
 
   pub all_read : (before bs : List ℕ) → length before ≡ due → length bs ≤ place before →
-      words_on allows due before (drop (place before) bs) ≡ Ok before
+      read_on before bs ≡ Ok before
   unfolding words_on
   all_read before bs n h =
       ap (words_on allows due before) (drop_all (place before) bs h) ∙
@@ -93,38 +99,5 @@ module _ (allows : List ℕ → ℕ → Bool) (due : ℕ) where
     go (a ∷ b ∷ c ∷ d ∷ ys) l = cond-true (eqb (length before) due) _ _ e ∙ ap Err f
 
   pub left_over : (before bs : List ℕ) → length before ≡ due → place before < length bs →
-      words_on allows due before (drop (place before) bs) ≡ Err (record { refusal = LeftOver; byte = place before })
+      read_on before bs ≡ Err (record { refusal = LeftOver; byte = place before })
   left_over before bs n h = more_left before (drop (place before) bs) n (omega (arith, length-drop (place before) bs))
-
-  -- the same where the words so far are the front of a buffer
-  module _ (words bs : List ℕ) (n : ℕ) (room : n ≤ length words) where
-    front_place : place (take n words) ≡ 4 + 4 * n
-    front_place = ap (λ k. 4 + 4 * k) (length-take-le n words room)
-
-    pub turn_ok : (w : ℕ) → n < due → n < length words → Ok w ≡ next_word allows (take n words) bs →
-        words_on allows due (take n words) (drop (4 + 4 * n) bs) ≡
-        words_on allows due (take (n + 1) (set words n w)) (drop (4 + 4 * (n + 1)) bs)
-    turn_ok w l m e =
-        ap (λ k. words_on allows due (take n words) (drop k bs)) (sym front_place) ∙
-        (one_turn (take n words) bs (λ z. omega (arith, length-take-le n words room)) (Ok w) e ∙
-        (ap (λ xs. words_on allows due xs (drop (place (take n words) + 4) bs)) (sym (take_more_set words n w m)) ∙
-        ap (λ k. words_on allows due (take (n + 1) (set words n w)) (drop k bs)) (omega (arith, front_place))))
-
-    pub turn_err : (f : WireFault) → n < due → Err f ≡ next_word allows (take n words) bs →
-        words_on allows due (take n words) (drop (4 + 4 * n) bs) ≡ Err f
-    turn_err f l e =
-        ap (λ k. words_on allows due (take n words) (drop k bs)) (sym front_place) ∙
-        one_turn (take n words) bs (λ z. omega (arith, length-take-le n words room)) (Err f) e
-
-    pub end_ok : n ≡ due → length bs ≤ 4 + 4 * n →
-        words_on allows due (take n words) (drop (4 + 4 * n) bs) ≡ Ok (take n words)
-    end_ok e h =
-        ap (λ k. words_on allows due (take n words) (drop k bs)) (sym front_place) ∙
-        all_read (take n words) bs (length-take-le n words room ∙ e) (omega (arith, front_place))
-
-    pub end_err : n ≡ due → 4 + 4 * n < length bs →
-        words_on allows due (take n words) (drop (4 + 4 * n) bs) ≡ Err (record { refusal = LeftOver; byte = 4 + 4 * n })
-    end_err e h =
-        ap (λ k. words_on allows due (take n words) (drop k bs)) (sym front_place) ∙
-        (left_over (take n words) bs (length-take-le n words room ∙ e) (omega (arith, front_place)) ∙
-        ap (λ k. Err (record { refusal = LeftOver; byte = k })) front_place)

@@ -1,6 +1,7 @@
 -- What is read of bytes is the frame that they were written of.
 use Rattle.std.proofs.Common.{◌≡◌, ℕ, suc, ◌+◌, ◌/◌, ◌%◌, ◌<◌, ◌≤◌, Bool, true, false, cond, leb, List, [], ◌∷◌, ◌++◌, length, take, drop, IfOk, Some, None, Ok, Err, Option, Result, sym, refl, ap, ◌∙◌, subst, ap₂, arith}
-use Rattle.std.proofs.lemmas.List.{get_or-drop}
+use Rattle.std.specs.Option.{IsSome}
+use Rattle.std.proofs.lemmas.List.{get_or-drop, take_at}
 use Rattle.std.proofs.lemmas.Bool.{leb-true}
 use Rattle.std.proofs.lemmas.Bool.Decides.{nat_tests}
 use Rattle.body.specs.Words.{in_order}
@@ -14,11 +15,10 @@ use Rattle.wire.specs.Bytes.{word_of, word_at, word_bytes, words_bytes}
 use Rattle.wire.specs.Layout.{kind_count, kind_allows, rest_words, frame_words, frame_bytes}
 use Rattle.wire.specs.Rebuilt.{frame_rebuilt}
 use Rattle.wire.specs.Reading.{words_on, words_read, words_by_kind, behind_kind, Reads, ReadsBack}
-use Rattle.wire.specs.Writing.{write_answer, write_after}
 use Rattle.wire.specs.Filling.{RestReads}
 use Rattle.wire.proofs.WordBytes.{Bytes, bytes_again}
 use Rattle.wire.proofs.Scans.{scan_read, scan_written}
-use Rattle.wire.proofs.Written.{write_front, ok_same}
+use Rattle.wire.proofs.Written.{ok_same}
 use Rattle.wire.proofs.FrameWords.{frame_ranged, frame_long, frame_rebuilds, frame_spelled}
 
 pub bytes_drop : (n : ℕ) (bs : List ℕ) → Bytes bs → Bytes (drop n bs)
@@ -71,22 +71,26 @@ module _ {B : Type 0} (words : B → List ℕ) (allows : List ℕ → ℕ → Bo
       let r = frame_rebuilds words allows count rebuilt rebuilding t.0 in
       (t.0, t.1, q, ap₂ (λ k xs. frame_rebuilt rebuilt k xs) (sym t.1) (sym q) ∙ r)
 
-  -- the frame that is rebuilt from a buffer which was filled
-  pub rest_made : (kind : FrameKind) (bs buffer : List ℕ) (due k : ℕ) (o : Option (Frame B)) → Bytes bs →
-      due ≡ kind_count count kind → k ≡ due →
-      words_on (kind_allows allows kind) due [] (drop 4 bs) ≡ Ok (take due buffer) →
-      o ≡ frame_rebuilt rebuilt kind (take k buffer) →
+  -- the frame that is rebuilt from the words that were read
+  rest_made : (kind : FrameKind) (bs ws : List ℕ) (o : Option (Frame B)) → Bytes bs →
+      words_on (kind_allows allows kind) (kind_count count kind) [] (drop 4 bs) ≡ Ok ws → o ≡ frame_rebuilt rebuilt kind ws →
       (f : Frame B) × (o ≡ Some f) × RestReads words allows count kind bs (Ok f)
-  rest_made kind bs buffer due k o small d j e q =
-      let h = ap (λ n. words_on (kind_allows allows kind) n [] (drop 4 bs)) (sym d) ∙ e in
-      let m = words_rebuild kind (drop 4 bs) (take due buffer) (bytes_drop 4 bs small) h in
-      (m.0, q ∙ (ap (λ n. frame_rebuilt rebuilt kind (take n buffer)) j ∙ m.3), (m.1, h ∙ ap Ok (sym m.2)))
+  rest_made kind bs ws o small e q =
+      let m = words_rebuild kind (drop 4 bs) ws (bytes_drop 4 bs small) e in
+      (m.0, q ∙ m.3, (m.1, e ∙ ap Ok (sym m.2)))
 
-  pub rest_some : (kind : FrameKind) (bs : List ℕ) (o : Option (Frame B)) (x : Frame B) → o ≡ Some x →
-      (f : Frame B) × (o ≡ Some f) × RestReads words allows count kind bs (Ok f) → RestReads words allows count kind bs (Ok x)
-  rest_some kind bs o x e m =
-      let q : m.0 ≡ x = some_same (sym m.1 ∙ e) in
-      subst (λ f. RestReads words allows count kind bs (Ok f)) q m.2
+  -- there is one
+  pub rest_there : (kind : FrameKind) (bs ws : List ℕ) (o : Option (Frame B)) → Bytes bs →
+      words_on (kind_allows allows kind) (kind_count count kind) [] (drop 4 bs) ≡ Ok ws → o ≡ frame_rebuilt rebuilt kind ws → IsSome o
+  rest_there kind bs ws o small e q =
+      subst IsSome (sym (rest_made kind bs ws o small e q).1) refl
+
+  pub rest_read : (kind : FrameKind) (bs ws : List ℕ) (o : Option (Frame B)) → Bytes bs →
+      words_on (kind_allows allows kind) (kind_count count kind) [] (drop 4 bs) ≡ Ok ws → o ≡ frame_rebuilt rebuilt kind ws →
+      (f : Frame B) → o ≡ Some f → RestReads words allows count kind bs (Ok f)
+  rest_read kind bs ws o small e q f r =
+      let m = rest_made kind bs ws o small e q in
+      subst (λ x. RestReads words allows count kind bs (Ok x)) (some_same (sym m.1 ∙ r)) m.2
 
   by_first : (bs : List ℕ) → 4 ≤ length bs →
       words_read allows count bs ≡ words_by_kind allows count (kind_named (word_at bs 0)) (drop 4 bs)
@@ -167,9 +171,9 @@ module _ {B : Type 0} (words : B → List ℕ) (allows : List ℕ → ℕ → Bo
       ap Ok (same_words g f e)
   reads_back f (Err x) h = absurd (let a = words_again f in let z : ◌≡◌ {A = ℕ} 0 1 = cc in omega arith)
 
-  pub write_back : (f : Frame B) (out after : List ℕ) (r : Result ℕ WireFault) → r ≡ write_answer out (frame_bytes words f) →
-      after ≡ write_after out (frame_bytes words f) → IfOk r (λ n. ReadsBack words allows count (take n after) f)
-  write_back f out after (Ok n) a b =
-      let e = write_front out after (frame_bytes words f) n a b in
-      λ r h. reads_back f r (subst (λ bs. Reads words allows count bs r) e h)
-  write_back f out after (Err x) a b = tt
+  -- what stands at the front of a buffer after writing
+  pub write_back : (f : Frame B) (after more : List ℕ) (n : ℕ) → after ≡ frame_bytes words f ++ more →
+      n ≡ length (frame_bytes words f) → ReadsBack words allows count (take n after) f
+  write_back f after more n e l r h =
+      let front : take n after ≡ frame_bytes words f = ap (take n) e ∙ take_at (frame_bytes words f) more n (sym l) in
+      reads_back f r (subst (λ bs. Reads words allows count bs r) front h)

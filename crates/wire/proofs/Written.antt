@@ -1,7 +1,6 @@
 -- Words one after the other into the front of a buffer.
-use Rattle.std.proofs.Common.{◌≡◌, ℕ, ◌+◌, ◌*◌, ◌<◌, ◌≤◌, Bool, true, false, cond, List, [], ◌∷◌, ◌++◌, length, get_or, take, drop, Ok, Err, Result, sym, refl, ap, ◌∙◌, ap₂, arith}
+use Rattle.std.proofs.Common.{◌≡◌, ℕ, ◌+◌, ◌*◌, ◌<◌, ◌≤◌, List, [], ◌∷◌, ◌++◌, length, get_or, take, drop, Ok, Result, sym, refl, ap, ◌∙◌, ap₂, arith}
 use Rattle.std.proofs.lemmas.List.{append_assoc, take_at, drop-drop, drop_at, take_more, length-take-le, take_all}
-use Rattle.wire.specs.Writing.{holds, too_short, write_answer, write_after}
 use Rattle.wire.specs.Bytes.{word_bytes, words_bytes}
 
 pub length_words_bytes : (ws : List ℕ) → length (words_bytes ws) ≡ 4 * length ws
@@ -47,13 +46,3 @@ front_all ws e n h =
 
 pub ok_same : {A E : Type 0} {x y : A} → ◌≡◌ {A = Result A E} (Ok x) (Ok y) → x ≡ y
 ok_same e = cc
-
--- what stands in the buffer after an accepted writing
-pub write_front : (out after bytes : List ℕ) (n : ℕ) → Ok n ≡ write_answer out bytes → after ≡ write_after out bytes → take n after ≡ bytes
-write_front out after bytes n a b = go (holds out bytes) refl a b where
-  go : (t : Bool) → holds out bytes ≡ t → Ok n ≡ cond t (Ok (length bytes)) (Err (too_short out)) →
-      after ≡ cond t (bytes ++ drop (length bytes) out) out → take n after ≡ bytes
-  go true p q r =
-      let l : n ≡ length bytes = ok_same q in
-      ap₂ take l r ∙ take_at bytes (drop (length bytes) out) (length bytes) refl
-  go false p q r = absurd (let z : ◌≡◌ {A = ℕ} 0 1 = cc in omega arith)

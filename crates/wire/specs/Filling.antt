@@ -1,5 +1,5 @@
 -- How the reader goes through the words behind the kind. Nothing that the public contracts rest on.
-use Rattle.std.specs.Prelude.{◌≡◌, ℕ, ◌+◌, Bool, cond, List, [], length, take, drop, Ok, Err, Result, nat_le}
+use Rattle.std.specs.Prelude.{◌≡◌, ℕ, ◌+◌, Bool, cond, List, [], length, drop, Ok, Err, Result, nat_le}
 use Rattle.body.specs.declared.WireFault.{WireFault}
 use Rattle.body.specs.declared.WireRefusal.TheVariants.{EndsTooSoon}
 use Rattle.frame.specs.Contents.{kind_of}
@@ -17,9 +17,9 @@ next_word allows before bs =
     Err (unfit_word before))) (
     Err (record { refusal = EndsTooSoon; byte = place before }))
 
--- the words that are due stand at the front of a buffer, or the first fault is answered
+-- the words that are due stand in a slice, or the first fault is answered
 abbrev pub Fills : (List ℕ → ℕ → Bool) → ℕ → List ℕ → List ℕ → Result (Unit {0}) WireFault → Type 0
-Fills allows due bs words (Ok u) = words_on allows due [] (drop 4 bs) ≡ Ok (take due words)
+Fills allows due bs words (Ok u) = words_on allows due [] (drop 4 bs) ≡ Ok words
 Fills allows due bs words (Err e) = words_on allows due [] (drop 4 bs) ≡ Err e
 
 -- the frame of a kind whose words stand behind the kind, or the first fault

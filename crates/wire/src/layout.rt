@@ -18,20 +18,8 @@ pub(crate) fn words_after<B: Body>(kind: FrameKind) -> usize
     }
 }
 
-// Whether a word of a message is in range after those before it, its number first.
-fn message_in_range<B: Body>(before: &[u32], word: u32) -> bool
-    ensures { result ≡ assigned_allows B.allows before.now word }
-{
-    match before {
-        [] => 1 <= word,
-        [_] => word <= 7,
-        [_, _] => true,
-        [_, _, _, body @ ..] => B::in_range(body, word),
-    }
-}
-
-// The same of an up or a down.
-fn switch_in_range(before: &[u32], word: u32) -> bool
+// Whether a word of a message is in range after those before it, its number first, where no body follows.
+fn message_in_range(before: &[u32], word: u32) -> bool
     ensures { result ≡ assigned_allows none_allowed before.now word }
 {
     match before {
@@ -47,8 +35,8 @@ fn content_in_range<B: Body>(kind: FrameKind, before: &[u32], word: u32) -> bool
     ensures { result ≡ content_allows B.allows kind before.now word }
 {
     match (kind, before) {
-        (FrameKind::Data, _) => message_in_range::<B>(before, word),
-        (FrameKind::Up | FrameKind::Down, _) => switch_in_range(before, word),
+        (FrameKind::Data, [_, _, _, body @ ..]) => B::in_range(body, word),
+        (FrameKind::Data | FrameKind::Up | FrameKind::Down, _) => message_in_range(before, word),
         (FrameKind::Ticket, []) => word <= 7,
         (FrameKind::Ticket, [_]) => 1 <= word,
         (FrameKind::Reassign, []) => true,

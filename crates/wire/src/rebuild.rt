@@ -9,15 +9,12 @@ fn content_from_words<B: Body>(kind: FrameKind, words: &[u32]) -> Option<Content
     ensures { result ≡ content_rebuilt B.rebuilt kind words.now }
 {
     match (kind, words) {
-        (FrameKind::Data, [number, sequencer, role, body @ ..]) => match B::from_words(body) {
-            Some(body) => Some(Content::Data {
-                number: MessageNumber(*number),
-                sequencer: *sequencer,
-                role: RoleNumber(*role),
-                body,
-            }),
-            None => None,
-        },
+        (FrameKind::Data, [number, sequencer, role, body @ ..]) => Some(Content::Data {
+            number: MessageNumber(*number),
+            sequencer: *sequencer,
+            role: RoleNumber(*role),
+            body: B::from_words(body)?,
+        }),
         (FrameKind::Up, [number, sequencer, role]) => Some(Content::Up {
             number: MessageNumber(*number),
             sequencer: *sequencer,
@@ -46,11 +43,9 @@ fn content_from_words<B: Body>(kind: FrameKind, words: &[u32]) -> Option<Content
 pub(crate) fn frame_from_words<B: Body>(kind: FrameKind, words: &[u32]) -> Option<Frame<B>>
     ensures { result ≡ frame_rebuilt B.rebuilt kind words.now }
 {
-    match words {
-        [sender, clock, content @ ..] => match content_from_words::<B>(kind, content) {
-            Some(content) => Frame::new(*sender, TicketNumber(*clock), content).ok(),
-            None => None,
-        },
-        _ => None,
-    }
+    let [sender, clock, content @ ..] = words else {
+        return None;
+    };
+    let content = content_from_words::<B>(kind, content)?;
+    Frame::new(*sender, TicketNumber(*clock), content).ok()
 }

@@ -16,13 +16,21 @@ fn content_word<B: Body>(content: Content<B>, i: usize) -> u32
     ensures { result ≡ slice_index (content_words B.words content) i }
 {
     match (content, i) {
-        (Content::Data { number, .. }, 0) => number.0,
-        (Content::Data { sequencer, .. }, 1) => sequencer,
-        (Content::Data { role, .. }, 2) => role.0,
+        (
+            Content::Data { number, .. }
+            | Content::Up { number, .. }
+            | Content::Down { number, .. },
+            0,
+        ) => number.0,
+        (
+            Content::Data { sequencer, .. }
+            | Content::Up { sequencer, .. }
+            | Content::Down { sequencer, .. },
+            1,
+        ) => sequencer,
+        (Content::Data { role, .. } | Content::Up { role, .. } | Content::Down { role, .. }, 2) =>
+            role.0,
         (Content::Data { body, .. }, _) => body.word(i - 3),
-        (Content::Up { number, .. } | Content::Down { number, .. }, 0) => number.0,
-        (Content::Up { sequencer, .. } | Content::Down { sequencer, .. }, 1) => sequencer,
-        (Content::Up { role, .. } | Content::Down { role, .. }, 2) => role.0,
         (Content::Ticket { of, .. }, 0) => of,
         (Content::Ticket { number, .. }, 1) => number.0,
         (Content::Reassign { last, .. }, 0) => last.0,
@@ -37,7 +45,7 @@ fn frame_word<B: Body>(frame: Frame<B>, i: usize) -> u32
     ensures { result ≡ slice_index (frame_words B.words frame) i }
 {
     match i {
-        0 => frame.kind().number(),
+        0 => u32::from(frame.kind()),
         1 => frame.sender.value,
         2 => frame.payload.clock.0,
         _ => content_word(frame.payload.content, i - 3),
@@ -77,9 +85,12 @@ fn put_words<B: Body>(frame: Frame<B>, out: &mut [u8])
     }
 }
 
-fn write_any<B: Body>(frame: Frame<B>, out: &mut [u8]) -> Result<usize, WireFault>
+// Writes the frame to the front of a buffer and answers how many bytes it takes there. What it writes reads back as the
+// frame.
+pub fn write_frame<B: Body>(frame: Frame<B>, out: &mut [u8]) -> Result<usize, WireFault>
     ensures answer { result ≡ write_answer out.old (frame_bytes B.words frame) }
     ensures after { out.new ≡ write_after out.old (frame_bytes B.words frame) }
+    ensures back { IfOk result (λ n. ReadsBack B.words B.allows B.count (take n out.new) frame) }
 {
     let length = frame_length(frame);
     if out.len() < length {
@@ -90,14 +101,4 @@ fn write_any<B: Body>(frame: Frame<B>, out: &mut [u8]) -> Result<usize, WireFaul
     }
     put_words(frame, out);
     Ok(length)
-}
-
-// Writes the frame to the front of a buffer and answers how many bytes it takes there. What it writes reads back as the
-// frame.
-pub fn write_frame<B: Body>(frame: Frame<B>, out: &mut [u8]) -> Result<usize, WireFault>
-    ensures answer { result ≡ write_answer out.old (frame_bytes B.words frame) }
-    ensures after { out.new ≡ write_after out.old (frame_bytes B.words frame) }
-    ensures back { IfOk result (λ n. ReadsBack B.words B.allows B.count (take n out.new) frame) }
-{
-    write_any(frame, out)
 }
