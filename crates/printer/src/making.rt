@@ -47,8 +47,8 @@ fn next_message(table: &PrinterTable) -> (MessageNumber, (u32, RoleNumber))
     ensures assigned { result.1 ≡ table.now.duty.sequencer }
     ensures in_range { assigned_ok result.0 result.1.0 result.1.1 ≡ true }
 {
-    let row = &table.backlog.messages[table.me.value as usize];
-    let number = MessageNumber(row.passed.0 + row.count + 1);
+    let row = &table.backlog.messages[table.me.index()];
+    let number = MessageNumber(row.passed + row.count + 1);
     (number, table.duty.sequencer)
 }
 
@@ -66,7 +66,7 @@ fn may_make(table: &PrinterTable, kind: RecordKind) -> Result<(), PrinterFault>
     if kind != RecordKind::Down && table.duty.owes {
         return Err(refused(table, PrinterRefusal::ReassignmentOwed));
     }
-    if table.backlog.messages[table.me.value as usize].count >= 7 {
+    if table.backlog.messages_held(table.me) >= 7 {
         return Err(refused(table, PrinterRefusal::SevenUndelivered));
     }
     Ok(())
@@ -93,7 +93,7 @@ fn hold_own(table: &mut PrinterTable, kind: RecordKind)
     table.duty.state = state_made(kind, table.duty.state);
     table
         .backlog
-        .hold_message(table.me.value, number, Held { kind, assigned });
+        .hold_message(table.me, number, Held { kind, assigned });
 }
 
 // Posts a message of the printer's own and holds it, if one of its kind can be made.
@@ -137,7 +137,7 @@ impl Printer {
             body,
         };
         make(&mut self.table, RecordKind::Data, content, transport)?;
-        lay(shelf, self.table.me.value, number, body.to_row());
+        lay(shelf, self.table.me, number, body.to_row());
         Ok(())
     }
 

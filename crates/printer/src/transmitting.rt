@@ -18,6 +18,7 @@ use backlog::Stub;
 use body::Body;
 use frame::{Content, MessageNumber, TicketNumber};
 use refusals::{PrinterFault, PrinterRefusal};
+use roles::Delays;
 use table::{Due, Heed, PrinterTable, Record};
 use transport::Transport;
 
@@ -26,9 +27,7 @@ fn settle_debt(table: &mut PrinterTable)
     ensures table { printer_of table.new ≡ repaid table.old.me.value (printer_of table.old) }
     ensures me { table.new.me ≡ table.old.me }
 {
-    table
-        .backlog
-        .reassign_all(table.me.value, table.duty.sequencer);
+    table.backlog.reassign_all(table.me, table.duty.sequencer);
     table.duty.owes = false;
 }
 
@@ -36,11 +35,11 @@ fn settle_debt(table: &mut PrinterTable)
 fn reassignment<B: Copy>(table: &PrinterTable) -> Content<B>
     ensures { result ≡ reassign_content table.now.me.value (printer_of table.now) }
 {
-    let row = &table.backlog.messages[table.me.value as usize];
+    let row = &table.backlog.messages[table.me.index()];
     let (sequencer, role) = table.duty.sequencer;
     Content::Reassign {
-        last: row.passed,
-        sent: MessageNumber(row.passed.0 + row.count),
+        last: MessageNumber(row.passed),
+        sent: MessageNumber(row.passed + row.count),
         sequencer,
         role,
     }
@@ -68,7 +67,7 @@ fn hold_ticket(table: &mut PrinterTable, sender: u32, message: MessageNumber)
 {
     let number = table.clocks.own;
     table.backlog.hold_ticket(
-        table.me.value,
+        table.me,
         Stub {
             number,
             sender,
@@ -120,23 +119,22 @@ impl Printer {
     // Posts the first frame that is due. There is a delay for each printer of the hall.
     pub fn transmit<T: Transport>(
         &mut self,
-        delays: &[u16],
+        delays: &Delays,
         list: &mut [Record<<T::Body as Body>::Row>],
         shelf: &[<T::Body as Body>::Row],
         transport: &mut T,
     ) -> Result<(), PrinterFault>
-        requires delays_len_bound { length delays.now < 9 }
-        requires list_len_bound { length list.old ≤ 65536 }
-        ensures answer { result ≡ transmit_answer (length delays.now) (number_of self.old) (kept_by self.old) (length list.old) (T.meaning transport.old) }
-        ensures after { desk_of self.new list.new shelf.now ≡ (if is_ok result then transmitted (length delays.now) (delay_in delays.now) (number_of self.old) (desk_of self.old list.old shelf.now) (due (length delays.now) (number_of self.old) (kept_by self.old)) else desk_of self.old list.old shelf.now) }
+        requires { length list.old ≤ 65536 }
+        ensures answer { result ≡ transmit_answer (length delays.now.row.now) (number_of self.old) (kept_by self.old) (length list.old) (T.meaning transport.old) }
+        ensures after { desk_of self.new list.new shelf.now ≡ (if is_ok result then transmitted (length delays.now.row.now) (delay_in delays.now.row.now) (number_of self.old) (desk_of self.old list.old shelf.now) (due (length delays.now.row.now) (number_of self.old) (kept_by self.old)) else desk_of self.old list.old shelf.now) }
         ensures number { number_of self.new ≡ number_of self.old }
-        ensures net { T.meaning transport.new ≡ (if is_ok result then after_transmit (number_of self.old) (kept_by self.old) (T.meaning transport.old) (due (length delays.now) (number_of self.old) (kept_by self.old)) else T.meaning transport.old) }
-        ensures lawful { Lawful (length delays.now) (desk_of self.old list.old shelf.now) (desk_of self.new list.new shelf.now) }
+        ensures net { T.meaning transport.new ≡ (if is_ok result then after_transmit (number_of self.old) (kept_by self.old) (T.meaning transport.old) (due (length delays.now.row.now) (number_of self.old) (kept_by self.old)) else T.meaning transport.old) }
+        ensures lawful { Lawful (length delays.now.row.now) (desk_of self.old list.old shelf.now) (desk_of self.new list.new shelf.now) }
     {
         if self.table.length as usize >= list.len() {
             return Err(refused(&self.table, PrinterRefusal::ListFull));
         }
-        match self.table.due(delays.len() as u32) {
+        match self.table.due(delays.count()) {
             None => Err(refused(&self.table, PrinterRefusal::NothingDue)),
             Some(Due::Reassignment) => repay(&mut self.table, transport),
             Some(Due::Ticket { sender, message }) => {
