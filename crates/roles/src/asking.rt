@@ -30,28 +30,19 @@ impl Configuration {
     pub fn seat(&self, printer: u32) -> Seat
         ensures { result ≡ conf_of self.now printer }
     {
-        match self.seats.get(printer as usize) {
-            Some(seat) => *seat,
-            None => NO_SEAT,
-        }
+        self.seats.get(printer as usize).copied().unwrap_or(NO_SEAT)
     }
 
     pub fn is_active(&self, printer: u32) -> bool
         ensures { result ≡ is_active (conf_of self.now) printer }
     {
-        match self.seat(printer).rank {
-            Rank::Active => true,
-            Rank::Passive | Rank::Removed => false,
-        }
+        self.seat(printer).rank == Rank::Active
     }
 
     pub(crate) fn remains(&self, printer: u32) -> bool
         ensures { result ≡ remains (conf_of self.now printer).rank }
     {
-        match self.seat(printer).rank {
-            Rank::Active | Rank::Passive => true,
-            Rank::Removed => false,
-        }
+        self.seat(printer).rank != Rank::Removed
     }
 
     // A printer with its role number.
