@@ -7,6 +7,7 @@ ghost use Rattle.wire.specs.Writing.{write_answer, write_after};
 
 use crate::layout::words_after;
 use body::{Body, WireFault, WireRefusal};
+use frame::Content::{Data, Down, Reassign, Ticket, Up};
 use frame::{Content, Frame};
 
 // A buffer of this length holds every frame of every body kind: six words, and eight of a body.
@@ -16,27 +17,16 @@ fn content_word<B: Body>(content: Content<B>, i: usize) -> u32
     ensures { result ≡ slice_index (content_words B.words content) i }
 {
     match (content, i) {
-        (
-            Content::Data { number, .. }
-            | Content::Up { number, .. }
-            | Content::Down { number, .. },
-            0,
-        ) => number.0,
-        (
-            Content::Data { sequencer, .. }
-            | Content::Up { sequencer, .. }
-            | Content::Down { sequencer, .. },
-            1,
-        ) => sequencer,
-        (Content::Data { role, .. } | Content::Up { role, .. } | Content::Down { role, .. }, 2) =>
-            role.0,
-        (Content::Data { body, .. }, _) => body.word(i - 3),
-        (Content::Ticket { of, .. }, 0) => of,
-        (Content::Ticket { number, .. }, 1) => number.0,
-        (Content::Reassign { last, .. }, 0) => last.0,
-        (Content::Reassign { sent, .. }, 1) => sent.0,
-        (Content::Reassign { sequencer, .. }, 2) => sequencer,
-        (Content::Reassign { role, .. }, 3) => role.0,
+        (Data { number, .. } | Up { number, .. } | Down { number, .. }, 0) => number.0,
+        (Data { sequencer, .. } | Up { sequencer, .. } | Down { sequencer, .. }, 1) => sequencer,
+        (Data { role, .. } | Up { role, .. } | Down { role, .. }, 2) => role.0,
+        (Data { body, .. }, _) => body.word(i - 3),
+        (Ticket { of, .. }, 0) => of,
+        (Ticket { number, .. }, 1) => number.0,
+        (Reassign { last, .. }, 0) => last.0,
+        (Reassign { sent, .. }, 1) => sent.0,
+        (Reassign { sequencer, .. }, 2) => sequencer,
+        (Reassign { role, .. }, 3) => role.0,
         _ => 0,
     }
 }
