@@ -57,6 +57,7 @@ fn frame_words<B: Body>(frame: Frame<B>) -> usize
 }
 
 // How many bytes the frame takes when it is written, at most `MAX_FRAME_BYTES`.
+#[tactic(auto, using(crate::proofs::Written::length_words_bytes))]
 pub fn frame_length<B: Body>(frame: Frame<B>) -> usize
     ensures value { result ≡ length (frame_bytes B.words frame) }
     ensures bound { result ≤ 56 }
@@ -65,6 +66,7 @@ pub fn frame_length<B: Body>(frame: Frame<B>) -> usize
 }
 
 // All words of the frame, to the front of a buffer that holds them.
+#[tactic(auto, using(crate::proofs::Written::length_words_bytes, crate::proofs::Written::front_more, crate::proofs::Written::front_none, crate::proofs::Written::front_all))]
 fn put_words<B: Body>(frame: Frame<B>, out: &mut [u8])
     requires { length (frame_bytes B.words frame) ≤ length out.old }
     ensures { out.new ≡ frame_bytes B.words frame ++ drop (length (frame_bytes B.words frame)) out.old }
