@@ -1,7 +1,5 @@
 -- The first words of a slice and the rest, as a slice pattern has them.
-use Rattle.std.proofs.Common.{◌≡◌, ℕ, ◌-◌, ◌≤◌, List, [], ◌∷◌, length, get_or, take, drop, Some, None, Option, sym, refl, ap, ◌∙◌, arith}
-use Rattle.std.specs.Option.{ok_or}
-use Rattle.std.specs.Result.{result_ok}
+use Rattle.std.proofs.Common.{◌≡◌, ℕ, ◌-◌, ◌≤◌, List, [], ◌∷◌, length, get_or, take, drop, sym, refl, ap, ◌∙◌, arith}
 use Rattle.std.proofs.lemmas.List.{take_rest, length-drop, nil_from_length}
 
 -- what stands behind the first k words
@@ -24,10 +22,6 @@ three_first [] l = absurd (omega arith)
 three_first (a ∷ []) l = absurd (omega arith)
 three_first (a ∷ b ∷ []) l = absurd (omega arith)
 three_first (a ∷ b ∷ c ∷ xs) l = ap (λ ys. a ∷ (b ∷ (c ∷ ys))) (sym (take_rest (a ∷ b ∷ c ∷ xs) 3))
-
-pub ok_part_ok_or : {A E : Type 0} (o : Option A) (e : E) → result_ok (ok_or o e) ≡ o
-ok_part_ok_or (Some x) e = refl
-ok_part_ok_or None e = refl
 
 -- a list of known length by its elements
 pub two_all : (xs : List ℕ) → length xs ≡ 2 → xs ≡ get_or xs 0 0 ∷ (get_or xs 1 0 ∷ [])

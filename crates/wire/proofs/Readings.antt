@@ -16,7 +16,7 @@ use Rattle.wire.specs.Layout.{kind_count, kind_allows, rest_words, frame_words, 
 use Rattle.wire.specs.Rebuilt.{frame_rebuilt}
 use Rattle.wire.specs.Reading.{words_on, words_read, words_by_kind, behind_kind, Reads, ReadsBack}
 use Rattle.wire.specs.Filling.{RestReads}
-use Rattle.wire.proofs.WordBytes.{Bytes, bytes_again}
+use Rattle.wire.proofs.WordBytes.{Bytes, bytes_again, four_small}
 use Rattle.wire.proofs.Scans.{scan_read, scan_written}
 use Rattle.wire.proofs.Written.{ok_same}
 use Rattle.wire.proofs.FrameWords.{frame_ranged, frame_long, frame_rebuilds, frame_spelled}
@@ -120,7 +120,7 @@ module _ {B : Type 0} (words : B → List ℕ) (allows : List ℕ → ℕ → Bo
       let m = scan_read (kind_allows allows kind) (kind_count count kind) bs [] vs (λ i. small (suc (suc (suc (suc i))))) e in
       let q : kind_number kind ∷ vs ≡ ws = cc in
       let t : word_bytes (kind_number kind) ≡ a ∷ (b ∷ (c ∷ (d ∷ []))) =
-      ap word_bytes n ∙ bytes_again a b c d (small 0) (small 1) (small 2) (small 3) in
+      ap word_bytes n ∙ bytes_again a b c d (four_small a b c d bs small) in
       ap (λ xs. a ∷ (b ∷ (c ∷ (d ∷ xs)))) (m.bytes ∙ ap words_bytes (sym m.all)) ∙
       (ap (λ xs. xs ++ words_bytes vs) (sym t) ∙ ap words_bytes q)
   rest_exact a b c d bs ws kind small n (Err x) e h = absurd (let z : ◌≡◌ {A = ℕ} 0 1 = cc in omega arith)

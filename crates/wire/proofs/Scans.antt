@@ -5,7 +5,7 @@ use Rattle.std.proofs.lemmas.Bool.{and_parts, and_from, eqb-true, ne_eqb, eq-eqb
 use Rattle.body.specs.Words.{in_order, is_word}
 use Rattle.wire.specs.Bytes.{word_of, words_bytes}
 use Rattle.wire.specs.Reading.{words_on, stopped, unfit_word}
-use Rattle.wire.proofs.WordBytes.{Bytes, word_again, bytes_again, word_small}
+use Rattle.wire.proofs.WordBytes.{Bytes, word_again, bytes_again, four_small, word_small}
 
 module _ (allows : List ℕ → ℕ → Bool) (due : ℕ) where
   -- words in range, as many as are due, are read as they were written
@@ -54,7 +54,7 @@ module _ (allows : List ℕ → ℕ → Bool) (due : ℕ) where
   one_more a b c d bs before ws small p m =
       let w = word_of a b c d in
       let small_word = lt-ltb w 4294967296 (word_small a b c d (small 0) (small 1) (small 2) (small 3)) in
-      let e = bytes_again a b c d (small 0) (small 1) (small 2) (small 3) in
+      let e = bytes_again a b c d (four_small a b c d bs small) in
       record {
         vs = w ∷ m.vs;
         all = m.all ∙ append_assoc before (w ∷ []) m.vs;

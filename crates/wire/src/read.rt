@@ -14,9 +14,10 @@ use frame::{Frame, FrameKind};
 const MOST_WORDS: usize = 13;
 
 fn word_at(bytes: &[u8], at: usize) -> Option<u32>
+    requires { at < 2 ^ 32 }
     ensures { result ≡ (if nat_le (at + 4) (length bytes.now) then Some (word_at bytes.now at) else None) }
 {
-    let word = bytes.get(at..)?.first_chunk()?;
+    let word = bytes.get(at..at + 4)?.first_chunk()?;
     Some(u32::from_be_bytes(*word))
 }
 

@@ -7,6 +7,7 @@ ghost use Rattle.wire.specs.Writing.{write_answer, write_after};
 
 use crate::layout::words_after;
 use body::{Body, WireFault, WireRefusal};
+use frame::Content::{Data, Down, Reassign, Ticket, Up};
 use frame::{Content, Frame};
 
 // A buffer of this length holds every frame of every body kind: six words, and eight of a body.
@@ -16,27 +17,16 @@ fn content_word<B: Body>(content: Content<B>, i: usize) -> u32
     ensures { result ≡ slice_index (content_words B.words content) i }
 {
     match (content, i) {
-        (
-            Content::Data { number, .. }
-            | Content::Up { number, .. }
-            | Content::Down { number, .. },
-            0,
-        ) => number.0,
-        (
-            Content::Data { sequencer, .. }
-            | Content::Up { sequencer, .. }
-            | Content::Down { sequencer, .. },
-            1,
-        ) => sequencer,
-        (Content::Data { role, .. } | Content::Up { role, .. } | Content::Down { role, .. }, 2) =>
-            role.0,
-        (Content::Data { body, .. }, _) => body.word(i - 3),
-        (Content::Ticket { of, .. }, 0) => of,
-        (Content::Ticket { number, .. }, 1) => number.0,
-        (Content::Reassign { last, .. }, 0) => last.0,
-        (Content::Reassign { sent, .. }, 1) => sent.0,
-        (Content::Reassign { sequencer, .. }, 2) => sequencer,
-        (Content::Reassign { role, .. }, 3) => role.0,
+        (Data { number, .. } | Up { number, .. } | Down { number, .. }, 0) => number.0,
+        (Data { sequencer, .. } | Up { sequencer, .. } | Down { sequencer, .. }, 1) => sequencer,
+        (Data { role, .. } | Up { role, .. } | Down { role, .. }, 2) => role.0,
+        (Data { body, .. }, _) => body.word(i - 3),
+        (Ticket { of, .. }, 0) => of,
+        (Ticket { number, .. }, 1) => number.0,
+        (Reassign { last, .. }, 0) => last.0,
+        (Reassign { sent, .. }, 1) => sent.0,
+        (Reassign { sequencer, .. }, 2) => sequencer,
+        (Reassign { role, .. }, 3) => role.0,
         _ => 0,
     }
 }
@@ -67,6 +57,7 @@ fn frame_words<B: Body>(frame: Frame<B>) -> usize
 }
 
 // How many bytes the frame takes when it is written, at most `MAX_FRAME_BYTES`.
+#[tactic(auto, using(crate::proofs::Written::length_words_bytes))]
 pub fn frame_length<B: Body>(frame: Frame<B>) -> usize
     ensures value { result ≡ length (frame_bytes B.words frame) }
     ensures bound { result ≤ 56 }
@@ -75,6 +66,7 @@ pub fn frame_length<B: Body>(frame: Frame<B>) -> usize
 }
 
 // All words of the frame, to the front of a buffer that holds them.
+#[tactic(auto, using(crate::proofs::Written::length_words_bytes, crate::proofs::Written::front_more, crate::proofs::Written::front_none, crate::proofs::Written::front_all))]
 fn put_words<B: Body>(frame: Frame<B>, out: &mut [u8])
     requires { length (frame_bytes B.words frame) ≤ length out.old }
     ensures { out.new ≡ frame_bytes B.words frame ++ drop (length (frame_bytes B.words frame)) out.old }
