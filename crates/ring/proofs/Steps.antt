@@ -13,7 +13,7 @@ use Rattle.transport.specs.Tables.{at_pair}
 use Rattle.transport.specs.declared.Members.{Members}
 use Rattle.transport.specs.declared.PairTable.{PairTable}
 use Rattle.transport.proofs.Circles.{around_below, around_apart, along_same, along_more, along_rest, along_first, length_along}
-use Rattle.transport.proofs.Kept.{counts_below, waits_counts, kept_there, kept_oldest, kept_taken}
+use Rattle.transport.proofs.Kept.{counts_below, counts_few, waits_counts, kept_there, kept_oldest, table_taken}
 use Rattle.transport.proofs.NetLaws.{net_path, cond_same}
 use Rattle.transport.proofs.TableLaws.{at_one, pair_self, pair_apart}
 use Rattle.ring.specs.Circles.{empty_circle, Within}
@@ -53,7 +53,10 @@ module _ {B R : Type 0} (remade : R → Option B) (m : Members) (limit : ℕ) (t
   pub ring_reaches : (i j : ℕ) → (length (net.waiting i j) ≡ 0 → ⊥) → reaches m i j ≡ true
   ring_reaches i j h = waits_counts m limit all (kept t cells) i j h
 
-  pub ring_below : (i j : ℕ) → reaches m i j ≡ true → (i < m.size) × (j < m.size)
+  pub ring_few : (i j : ℕ) → reaches m i j ≡ true → (i < 8) × (j < 8)
+  ring_few i j h = counts_few m limit all (kept t cells) i j h
+
+  ring_below : (i j : ℕ) → reaches m i j ≡ true → (i < m.size) × (j < m.size)
   ring_below i j h = counts_below m limit all (kept t cells) i j h
 
   pub ring_first : (s d : ℕ) → reaches m s d ≡ true → (C s d).start < limit → ((C s d).held ≡ 0 → ⊥) →
@@ -69,22 +72,12 @@ module _ {B R : Type 0} (remade : R → Option B) (m : Members) (limit : ℕ) (t
       ((i j : ℕ) → j < 8 → at_pair empty_circle t' i j ≡ cond (eqb i s && eqb j d) v (C i j)) →
       ring_net remade m limit t' cells ≡ after_take net s d
   ring_taken t' v s d hr hw hh hs hv w =
-      kept_taken m limit all (kept t cells) (kept t' cells) s d hr here else
-    where
-      below : (i j : ℕ) → reaches m i j ≡ true → j < 8
-      below i j h = let p = ring_below i j h in let f = m.few in omega arith
-
-      here : kept t' cells s d ≡ rest (kept t cells s d)
-      here =
-          let at = frame_at remade m.size limit cells s d in
-          let e : suc ((C s d).held - 1) ≡ (C s d).held = omega arith in
-          ap (circle_frames remade m.size limit cells s d) (w s d (below s d hr) ∙ cond-true _ _ _ (pair_self s d)) ∙
-          (ap₂ (along at limit) hs hv ∙
-          (along_rest limit at (C s d).start ((C s d).held - 1) hw.0 (omega arith) ∙
-          ap (λ k. rest (along at limit (C s d).start k)) e))
-
-      else : (i j : ℕ) → reaches m i j ≡ true → (i ≡ s → j ≡ d → ⊥) → kept t' cells i j ≡ kept t cells i j
-      else i j h ne = ap (circle_frames remade m.size limit cells i j) (w i j (below i j h) ∙ cond-false _ _ _ (pair_apart i s j d ne))
+      let at = frame_at remade m.size limit cells s d in
+      let e : suc ((C s d).held - 1) ≡ (C s d).held = omega arith in
+      table_taken m limit all (circle_frames remade m.size limit cells) empty_circle t t' v s d hr
+      (ap₂ (along at limit) hs hv ∙
+      (along_rest limit at (C s d).start ((C s d).held - 1) hw.0 (omega arith) ∙
+      ap (λ k. rest (along at limit (C s d).start k)) e)) w
 
   pub ring_pushed : (t' : PairTable Circle) (v : Circle) (s d at : ℕ) (row : FrameRow R) → reaches m s d ≡ true →
       ((i j : ℕ) → j < 8 → Within limit (C i j)) → (C s d).held < limit → v.start ≡ (C s d).start → v.held ≡ (C s d).held + 1 →
@@ -100,14 +93,11 @@ module _ {B R : Type 0} (remade : R → Option B) (m : Members) (limit : ℕ) (t
       F' : ℕ → ℕ → ℕ → Frame B
       F' = frame_at remade m.size limit (set cells at row)
 
-      below : (i j : ℕ) → reaches m i j ≡ true → j < 8
-      below i j h = let p = ring_below i j h in let f = m.few in omega arith
-
       end : ℕ
       end = around limit (C s d).start (C s d).held
 
       within : end < limit
-      within = let h = hw s d (below s d hr) in around_below limit (C s d).start (C s d).held h.0 h.1
+      within = let h = hw s d (ring_few s d hr).1 in around_below limit (C s d).start (C s d).held h.0 h.1
 
       same : (i j q : ℕ) → j < m.size → q < limit → (i ≡ s → j ≡ d → q ≡ end → ⊥) → F' i j q ≡ frame_at remade m.size limit cells i j q
       same i j q hj hq ne = ap (stored remade) (get_or-set_other cells at (cell m.size limit i j q) row blank (λ e.
@@ -116,9 +106,9 @@ module _ {B R : Type 0} (remade : R → Option B) (m : Members) (limit : ℕ) (t
 
       here : next.waiting s d ≡ net.waiting s d ++ stored remade row ∷ []
       here =
-          let h = hw s d (below s d hr) in
+          let h = hw s d (ring_few s d hr).1 in
           kept_there m limit all (kept t' (set cells at row)) s d hr ∙
-          (ap (circle_frames remade m.size limit (set cells at row) s d) (w s d (below s d hr) ∙ cond-true _ _ _ (pair_self s d)) ∙
+          (ap (circle_frames remade m.size limit (set cells at row) s d) (w s d (ring_few s d hr).1 ∙ cond-true _ _ _ (pair_self s d)) ∙
           (ap₂ (along (F' s d) limit) hs hv ∙
           (along_more limit (frame_at remade m.size limit cells s d) (F' s d) (C s d).start (C s d).held (stored remade row)
           (λ k l. same s d (around limit (C s d).start k) (ring_below s d hr).1
@@ -129,7 +119,7 @@ module _ {B R : Type 0} (remade : R → Option B) (m : Members) (limit : ℕ) (t
 
       else : (i j : ℕ) → (i ≡ s → j ≡ d → ⊥) → next.waiting i j ≡ net.waiting i j
       else i j ne = cond_same (reaches m i j) _ _ [] (λ e.
-          let h = hw i j (below i j e) in
-          ap (circle_frames remade m.size limit (set cells at row) i j) (w i j (below i j e) ∙ cond-false _ _ _ (pair_apart i s j d ne)) ∙
+          let h = hw i j (ring_few i j e).1 in
+          ap (circle_frames remade m.size limit (set cells at row) i j) (w i j (ring_few i j e).1 ∙ cond-false _ _ _ (pair_apart i s j d ne)) ∙
           along_same limit (F' i j) (frame_at remade m.size limit cells i j) (C i j).start (C i j).held (λ k l.
           same i j (around limit (C i j).start k) (ring_below i j e).1 (around_below limit (C i j).start k h.0 (omega arith)) (λ u v _. ne u v)))

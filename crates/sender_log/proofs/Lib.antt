@@ -1,4 +1,3 @@
-pub mod Makes
 pub mod Takes
 pub mod Posts
 pub mod Tables

@@ -15,7 +15,7 @@ use Rattle.transport.proofs.Circles.{around_below, around_apart, around_back, ar
 use Rattle.transport.proofs.NetLaws.{net_path, cond_same, accepts_below, accepts_room}
 use Rattle.transport.specs.Tables.{at_pair}
 use Rattle.sender_log.specs.Logs.{carries, cell, cursor, last_frames, log_net}
-use Rattle.sender_log.proofs.Takes.{carries_heard, log_waits, log_below}
+use Rattle.sender_log.proofs.Takes.{carries_heard, log_waits, log_below, log_few}
 
 module _ {B R : Type 0} (frame : FrameRow R → Frame B) (limit : ℕ) (cells : List (FrameRow R)) (row : FrameRow R) where
   -- the log of the sender, one frame longer
@@ -126,13 +126,13 @@ module _ {B R : Type 0} (frame : FrameRow R → Frame B) (m : Members) (limit : 
       there : (j : ℕ) → carries m s j ≡ true → new s j ≡ old s j ++ f ∷ []
       there j c =
           let q = log_below frame m limit ends t cells s j c in
-          let few = m.few in
+          let j8 = (log_few frame m limit ends t cells s j c).1 in
           let h = sym (carries_heard m s j below) ∙ c in
           let r = log_room s j ha q.1 h in
           let e : at_pair 0 t' s j ≡ at_pair 0 t s j + 1 =
-          hm s j (omega arith) ∙ cond-true (eqb s s && hears_in m s j) _ _ (and_from (eqb s s) _ (eq-eqb s s refl) h) in
+          hm s j j8 ∙ cond-true (eqb s s && hears_in m s j) _ _ (and_from (eqb s s) _ (eq-eqb s s refl) h) in
           cond-true (carries m s j) _ [] c ∙
-          (ap₂ (last_frames frame limit cells' s) (get_or-set_same ends s (around limit end 1) 0 (omega arith)) e ∙
+          (ap₂ (last_frames frame limit cells' s) (get_or-set_same ends s (around limit end 1) 0 (let p = m.few in omega arith)) e ∙
           (last_more frame limit cells row s end (at_pair 0 t s j) (he s) r fits ∙
           ap₂ (λ xs x. xs ++ x ∷ []) (sym (cond-true (carries m s j) _ [] c)) fr))
 
@@ -147,10 +147,8 @@ module _ {B R : Type 0} (frame : FrameRow R → Frame B) (m : Members) (limit : 
 
       kept : (i j : ℕ) → test i j ≡ false → new i j ≡ old i j
       kept i j e = cond_same (carries m i j) _ _ [] (λ c.
-          let q = log_below frame m limit ends t cells i j c in
-          let few = m.few in
+          let j8 = (log_few frame m limit ends t cells i j c).1 in
           let ne : i ≢ s = other i j e c in
-          let j8 : j < 8 = omega arith in
           let k : at_pair 0 t' i j ≡ at_pair 0 t i j =
           hm i j j8 ∙ cond-false (eqb i s && hears_in m i j) _ _ (and_left (eqb i s) _ (ne_eqb i s ne)) in
           ap₂ (last_frames frame limit cells' i) (get_or-set_other ends s i (around limit end 1) 0 ne) k ∙

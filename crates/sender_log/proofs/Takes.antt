@@ -1,6 +1,6 @@
 -- What waits for a receiver, and a frame taken: its cursor one frame nearer to the end of the log.
 use Rattle.std.proofs.Common.{◌≡◌, ℕ, suc, ◌+◌, ◌-◌, ◌<◌, ◌≤◌, Bool, true, false, cond, not, ◌&&◌, eqb, ltb, List, length, get_or, Some, sym, refl, ap, ◌∙◌, arith}
-use Rattle.std.proofs.lemmas.Bool.{lt-ltb, cond-true, cond-false}
+use Rattle.std.proofs.lemmas.Bool.{lt-ltb}
 use Rattle.frame.specs.declared.Frame.{Frame}
 use Rattle.frame.specs.declared.FrameRow.{FrameRow}
 use Rattle.transport.specs.Circles.{along}
@@ -11,8 +11,7 @@ use Rattle.transport.specs.Tables.{at_pair}
 use Rattle.transport.specs.declared.Members.{Members}
 use Rattle.transport.specs.declared.PairTable.{PairTable}
 use Rattle.transport.proofs.Circles.{around_below, around_nearer, along_rest, along_first, length_along}
-use Rattle.transport.proofs.Kept.{counts_below, waits_counts, kept_there, kept_oldest, kept_taken}
-use Rattle.transport.proofs.TableLaws.{pair_self, pair_apart}
+use Rattle.transport.proofs.Kept.{counts_below, counts_few, waits_counts, kept_there, kept_oldest, table_taken}
 use Rattle.sender_log.specs.Logs.{carries, others, cell, cursor, last_frames, log_net}
 
 module _ {B R : Type 0} (frame : FrameRow R → Frame B) (limit : ℕ) (cells : List (FrameRow R)) where
@@ -66,6 +65,9 @@ module _ {B R : Type 0} (frame : FrameRow R → Frame B) (m : Members) (limit : 
   pub log_carries : (i j : ℕ) → (length (net.waiting i j) ≡ 0 → ⊥) → carries m i j ≡ true
   log_carries i j h = waits_counts m limit others (kept t) i j h
 
+  pub log_few : (i j : ℕ) → carries m i j ≡ true → (i < 8) × (j < 8)
+  log_few i j h = counts_few m limit others (kept t) i j h
+
   pub log_below : (i j : ℕ) → carries m i j ≡ true → (i < m.size) × (j < m.size)
   log_below i j h = counts_below m limit others (kept t) i j h
 
@@ -79,17 +81,10 @@ module _ {B R : Type 0} (frame : FrameRow R → Frame B) (m : Members) (limit : 
       v ≡ at_pair 0 t s d - 1 →
       ((i j : ℕ) → j < 8 → at_pair 0 t' i j ≡ cond (eqb i s && eqb j d) v (at_pair 0 t i j)) →
       log_net frame m limit ends t' cells ≡ after_take net s d
-  log_taken t' v s d h he hl ne hv w = kept_taken m limit others (kept t) (kept t') s d h here else
-    where
-      below : (i j : ℕ) → carries m i j ≡ true → j < 8
-      below i j h = let p = log_below i j h in let f = m.few in omega arith
-
-      here : kept t' s d ≡ rest (kept t s d)
-      here =
-          let e : at_pair 0 t s d - 1 + 1 ≡ at_pair 0 t s d = omega arith in
-          ap (last_frames frame limit cells s (get_or ends s 0)) (w s d (below s d h) ∙ (cond-true _ _ _ (pair_self s d) ∙ hv)) ∙
-          (last_rest frame limit cells s (get_or ends s 0) (at_pair 0 t s d - 1) he (omega arith) ∙
-          ap (λ k. rest (last_frames frame limit cells s (get_or ends s 0) k)) e)
-
-      else : (i j : ℕ) → carries m i j ≡ true → (i ≡ s → j ≡ d → ⊥) → kept t' i j ≡ kept t i j
-      else i j c ne = ap (last_frames frame limit cells i (get_or ends i 0)) (w i j (below i j c) ∙ cond-false _ _ _ (pair_apart i s j d ne))
+  log_taken t' v s d h he hl ne hv w =
+      let end = get_or ends s 0 in
+      let e : at_pair 0 t s d - 1 + 1 ≡ at_pair 0 t s d = omega arith in
+      table_taken m limit others (λ i j. last_frames frame limit cells i (get_or ends i 0)) 0 t t' v s d h
+      (ap (last_frames frame limit cells s end) hv ∙
+      (last_rest frame limit cells s end (at_pair 0 t s d - 1) he (omega arith) ∙
+      ap (λ k. rest (last_frames frame limit cells s end k)) e)) w

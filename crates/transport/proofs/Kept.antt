@@ -1,13 +1,15 @@
 -- What a call does to a net, where what is kept for each pair is told by a function.
-use Rattle.std.proofs.Common.{◌≡◌, ℕ, ◌<◌, Bool, true, false, cond, ◌&&◌, eqb, ltb, List, [], length, sym, refl, ap, ◌∙◌, ap₂}
+use Rattle.std.proofs.Common.{◌≡◌, ℕ, ◌<◌, Bool, true, false, cond, ◌&&◌, eqb, ltb, List, [], length, sym, refl, ap, ◌∙◌, ap₂, arith}
 use Rattle.std.proofs.lemmas.Bool.{and_parts, and_from, cond_both, cond-true, cond-false, both_ways, eq-eqb, ltb-true}
 use Rattle.std.proofs.lemmas.List.{nil_from_length}
 use Rattle.frame.specs.declared.Frame.{Frame}
-use Rattle.transport.specs.Members.{opened, reaches, kept_net}
-use Rattle.transport.specs.Nets.{Net, fresh, first, rest, has, oldest, after_take, after_close}
+use Rattle.transport.specs.Members.{reaches, kept_net}
+use Rattle.transport.specs.Nets.{Net, first, rest, has, oldest, after_take}
+use Rattle.transport.specs.Tables.{at_pair}
 use Rattle.transport.specs.declared.members.Members.{Members}
+use Rattle.transport.specs.declared.pairs.PairTable.{PairTable}
 use Rattle.transport.proofs.NetLaws.{net_path, cond_same}
-use Rattle.transport.proofs.TableLaws.{pair_true}
+use Rattle.transport.proofs.TableLaws.{pair_true, pair_self, pair_apart}
 
 -- taking from an empty pair changes nothing
 pub take_nothing : {B : Type 0} (t : Net B) (s d : ℕ) → length (t.waiting s d) ≡ 0 → t ≡ after_take t s d
@@ -23,9 +25,6 @@ module _ {B : Type 0} (m : Members) (limit : ℕ) (also : ℕ → ℕ → Bool) 
   abbrev pub counts : ℕ → ℕ → Bool
   counts i j = also i j && reaches m i j
 
-  pub kept_fresh : (n : ℕ) → m.size ≡ n → ((j : ℕ) → opened m j ≡ ltb j n) → ((i j : ℕ) → kept i j ≡ []) → kept_net m limit also kept ≡ fresh n limit
-  kept_fresh n e o k = net_path _ _ e refl o (λ i j. cond_both (counts i j) (kept i j) [] (λ z. z ≡ []) (λ _. k i j) (λ _. refl))
-
   counts_there : (i j : ℕ) → counts i j ≡ true → (ltb i m.size && ltb j m.size) ≡ true
   counts_there i j h =
       let p = and_parts (ltb i m.size) _ (and_parts (also i j) _ h).1 in
@@ -35,7 +34,10 @@ module _ {B : Type 0} (m : Members) (limit : ℕ) (also : ℕ → ℕ → Bool) 
   pub counts_below : (i j : ℕ) → counts i j ≡ true → (i < m.size) × (j < m.size)
   counts_below i j h = let p = and_parts (ltb i m.size) _ (counts_there i j h) in (ltb-true i m.size p.0, ltb-true j m.size p.1)
 
-  pub kept_none : (i j : ℕ) → counts i j ≡ false → (kept_net m limit also kept).waiting i j ≡ []
+  pub counts_few : (i j : ℕ) → counts i j ≡ true → (i < 8) × (j < 8)
+  counts_few i j h = let p = counts_below i j h in let f = m.few in (omega arith, omega arith)
+
+  kept_none : (i j : ℕ) → counts i j ≡ false → (kept_net m limit also kept).waiting i j ≡ []
   kept_none i j h = cond-false (counts i j) _ [] h
 
   pub kept_there : (i j : ℕ) → counts i j ≡ true → (kept_net m limit also kept).waiting i j ≡ kept i j
@@ -52,19 +54,7 @@ module _ {B : Type 0} (m : Members) (limit : ℕ) (also : ℕ → ℕ → Bool) 
   pub kept_oldest : (s d : ℕ) → counts s d ≡ true → oldest (kept_net m limit also kept) s d ≡ first (kept s d)
   kept_oldest s d h = ap first (cond-true _ _ _ (counts_there s d h) ∙ kept_there s d h)
 
-  pub kept_closed : (m' : Members) (p : ℕ) → m'.size ≡ m.size → ((j : ℕ) → opened m' j ≡ cond (eqb j p && ltb j m.size) false (opened m j)) →
-      kept_net m' limit also kept ≡ after_close (kept_net m limit also kept) p
-  kept_closed m' p e o = net_path _ _ e refl o (λ i j.
-      ap₂ (λ n b. cond (also i j && (ltb i n && b)) (kept i j) []) e (o j) ∙
-      emptied (eqb j p && ltb j m.size) (also i j) (ltb i m.size) (opened m j) (kept i j))
-    where
-      emptied : (d a e c : Bool) (w : List (Frame B)) → cond (a && (e && cond d false c)) w [] ≡ cond d [] (cond (a && (e && c)) w [])
-      emptied true true true c w = refl
-      emptied true true false c w = refl
-      emptied true false e c w = refl
-      emptied false a e c w = refl
-
-  pub kept_taken : (kept' : ℕ → ℕ → List (Frame B)) (s d : ℕ) → counts s d ≡ true → kept' s d ≡ rest (kept s d) →
+  kept_taken : (kept' : ℕ → ℕ → List (Frame B)) (s d : ℕ) → counts s d ≡ true → kept' s d ≡ rest (kept s d) →
       ((i j : ℕ) → counts i j ≡ true → (i ≡ s → j ≡ d → ⊥) → kept' i j ≡ kept i j) →
       kept_net m limit also kept' ≡ after_take (kept_net m limit also kept) s d
   kept_taken kept' s d h here else =
@@ -84,3 +74,19 @@ module _ {B : Type 0} (m : Members) (limit : ℕ) (also : ℕ → ℕ → Bool) 
 
       there : new s d ≡ rest (old s d)
       there = cond-true (counts s d) _ [] h ∙ (here ∙ ap rest (sym (kept_there s d h)))
+
+-- a table of what is kept, written at the pair from which is taken
+pub table_taken : {B T : Type 0} (m : Members) (limit : ℕ) (also : ℕ → ℕ → Bool) (kept : ℕ → ℕ → T → List (Frame B)) (none : T) (t t' : PairTable T) (v : T) (s d : ℕ) →
+    (also s d && reaches m s d) ≡ true → kept s d v ≡ rest (kept s d (at_pair none t s d)) →
+    ((i j : ℕ) → j < 8 → at_pair none t' i j ≡ cond (eqb i s && eqb j d) v (at_pair none t i j)) →
+    kept_net m limit also (λ i j. kept i j (at_pair none t' i j)) ≡ after_take (kept_net m limit also (λ i j. kept i j (at_pair none t i j))) s d
+table_taken {B} m limit also kept none t t' v s d h r w =
+    kept_taken m limit also old (λ i j. kept i j (at_pair none t' i j)) s d h
+    (ap (kept s d) (w s d (few s d h) ∙ cond-true _ _ _ (pair_self s d)) ∙ r)
+    (λ i j c ne. ap (kept i j) (w i j (few i j c) ∙ cond-false _ _ _ (pair_apart i s j d ne)))
+  where
+    old : ℕ → ℕ → List (Frame B)
+    old i j = kept i j (at_pair none t i j)
+
+    few : (i j : ℕ) → (also i j && reaches m i j) ≡ true → j < 8
+    few i j c = (counts_few m limit also old i j c).1

@@ -3,8 +3,6 @@ use Rattle.std.proofs.Common.{◌≡◌, ℕ, zero, suc, ◌+◌, ◌*◌, ◌<�
 use Rattle.std.proofs.lemmas.List.{get_or-set_same, get_or-set_other, set_past}
 use Rattle.std.proofs.lemmas.Bool.{and_parts, and_from, eqb-true, eq-eqb, cases_eq, cases_lt, cond_both}
 use Rattle.std.proofs.lemmas.Bool.Decides.{nat_tests}
-use Rattle.transport.specs.Tables.{at_pair}
-use Rattle.transport.specs.declared.pairs.PairTable.{PairTable}
 
 pub same_everywhere : {T : Type 0} (n k : ℕ) (v : T) → get_or (replicate n v) k v ≡ v
 same_everywhere zero k v = refl
@@ -53,10 +51,3 @@ after_set P xs i v h all k =
       | inl l ↦ subst P (sym (ap (λ y. get_or (set xs i v) y 0) e ∙ get_or-set_same xs i v 0 l)) h
       | inr l ↦ subst P (sym (ap (λ y. get_or y k 0) (set_past xs i v l))) (all k)
     ]
-
--- what holds of each value of a table holds after a write of one of which it holds
-pub all_after : {T : Type 0} (P : T → Type 0) (none v : T) (old new : PairTable T) (s d : ℕ) → P v → ((i j : ℕ) → j < 8 → P (at_pair none old i j)) →
-    ((i j : ℕ) → j < 8 → at_pair none new i j ≡ cond (eqb i s && eqb j d) v (at_pair none old i j)) →
-    (i j : ℕ) → j < 8 → P (at_pair none new i j)
-all_after P none v old new s d h all w i j hj =
-    subst P (sym (w i j hj)) (cond_both (eqb i s && eqb j d) v (at_pair none old i j) P (λ _. h) (λ _. all i j hj))

@@ -78,12 +78,13 @@ impl Members {
     // How many posts a sender could make in a row, where a pair holds at most `limit` frames, and `waits` tells how many
     // wait for each receiver.
     pub fn most_posts<F: Fn(u32) -> usize>(&self, sender: u32, limit: usize, waits: F) -> usize
-        requires { (j : ℕ) → sender < self.now.size → j < self.now.size → F.pre waits j }
+        requires { F.IsAlwaysCallable waits }
         ensures { (w : ℕ → ℕ) → ((j k : ℕ) → j < self.now.size → F.post waits j k → k ≡ w j) → result ≡ cond (nat_lt sender self.now.size) (least_below self.now.size (λ j. cond (hears_in self.now sender j) (limit - w j) limit) limit) 0 }
     {
         if sender >= self.size {
             return 0;
         }
+        // A loop: the proof of a chain over a closure that is a parameter did not close.
         let mut least = limit;
         for receiver in 0..self.size {
             let room = self.room(sender, receiver, limit, waits(receiver));
