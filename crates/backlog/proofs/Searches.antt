@@ -1,5 +1,5 @@
 -- What searches of the numbers of a range tell of the first thing that is found.
-use Rattle.std.proofs.Common.{◌≡◌, ℕ, zero, suc, ◌+◌, ◌<◌, ◌≤◌, Bool, true, false, cond, IfSome, IsSomeAnd, MatchOption, IsTrue, Some, None, Option, sym, refl, ap, ◌∙◌, arith}
+use Rattle.std.proofs.Common.{◌≡◌, ℕ, zero, suc, ◌+◌, ◌<◌, ◌≤◌, Bool, true, false, cond, IfSome, MatchOption, IsTrue, Some, None, Option, sym, refl, ap, ◌∙◌, arith}
 use denote.Param.Members.{Mut}
 use Rattle.std.specs.Fn.{Called}
 use Rattle.std.specs.Iterator.Runs.{SomeRun, CallKeepsClosure, AllItemsGive, IsFirstToGive}
@@ -10,6 +10,7 @@ use Rattle.std.proofs.iter.Yields.{nat_range_steps}
 use Rattle.std.proofs.iter.runs.Sources.{range_runs}
 use Rattle.std.proofs.lemmas.Bool.{cond_both}
 use Rattle.std.proofs.lemmas.Iterator.Adapters.{option_map_id}
+use Rattle.roles.proofs.Ranges.{some_is}
 use Rattle.backlog.specs.Firsts.{first_from, or_else}
 
 module _ {A : Type 0} (f : ℕ → Option A) where
@@ -69,10 +70,6 @@ module _ {B C F : Type 0} {g : Mut F (ℕ × Unit {0}) (Option B)} (k n : ℕ) (
   given : (b : Option B) (i : ℕ) (o : Option ℕ) → o ≡ Some (k + i) → IfSome o (λ x. Called g f (x, tt) b f) → h (k + i) ≡ option_map v b
   given b i None e c = absurd (let z : ◌≡◌ {A = ℕ} 0 1 = cc in omega arith)
   given b i (Some x) e c = let d : x ≡ k + i = cc in sym (ap h d) ∙ sym (closed x b f c).1
-
-  some_is : (P : ℕ → Type 0) (o : Option ℕ) → IsSomeAnd o P → IfSome o P
-  some_is P None p = absurd p
-  some_is P (Some x) p = p
 
   pub find_map_in_range : (r : Option B) →
       SomeRun nat_range_steps s (λ p. MatchOption r (IsTrue p.whole × AllItemsGive p g f None) (λ y. (i : ℕ) × (i < p.len) × (p.len ≡ i + 1) × IsFirstToGive p g f (Some y) None i)) →

@@ -7,10 +7,6 @@ use Rattle.backlog.specs.Tickets.{first_ticket, first_or, lesser, before, issued
 use Rattle.backlog.specs.declared.rows.Stub.{Stub}
 use Rattle.backlog.specs.declared.rows.Ticket.{Ticket}
 
-pub first_ticket_none : (h : Holding) → first_ticket 0 h ≡ None
-unfolding first_ticket
-first_ticket_none h = refl
-
 pub first_ticket_more : (b : ℕ) (h : Holding) → first_ticket (b + 1) h ≡ first_or b (h.tickets b) (first_ticket b h)
 unfolding first_ticket
 first_ticket_more b h = rw add-one refl

@@ -113,9 +113,8 @@ impl Backlog {
         ensures answer { result ≡ holds_message (holding_of self.now) sender number.0 }
         ensures there { result ≡ true → sender < 8 }
     {
-        self.messages
-            .get(sender as usize)
-            .is_some_and(|row| row.passed < number.0 && number.0 <= row.passed + row.count)
+        self.messages.get(sender as usize).is_some_and(|row| row.passed < number.0
+            && number.0 <= row.passed + row.count)
     }
 
     // What is kept of a held message.

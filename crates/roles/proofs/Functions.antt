@@ -1,8 +1,8 @@
 -- Functions from numbers: what a change at one place leaves, and what the tests below a number tell.
-use Rattle.std.proofs.Common.{◌≡◌, ℕ, zero, suc, ◌+◌, ◌<◌, Bool, true, false, ◌||◌, eqb, List, length, get_or, set, Some, None, Option, MatchOption, Decides, sym, refl, ap, ◌∙◌, inl, inr, add-one, arith}
+use Rattle.std.proofs.Common.{◌≡◌, ℕ, zero, suc, ◌<◌, Bool, true, false, cond, eqb, List, length, get_or, set, Some, None, Option, Decides, sym, refl, ap, ◌∙◌, inl, inr, arith}
 use mathlib.Core.Path.{fun_ext}
 use Rattle.std.proofs.lemmas.List.{get_or-set_same, get_or-set_other}
-use Rattle.std.proofs.lemmas.Bool.{cond_both, or_from, cases_eq}
+use Rattle.std.proofs.lemmas.Bool.{cond_both, cases_eq}
 use Rattle.std.proofs.lemmas.Bool.Decides.{Decides-below_or, nat_tests}
 use Rattle.roles.specs.Functions.{put, any_below, highest}
 
@@ -47,18 +47,22 @@ any_below_fails n p j h e = let at = any_below_at n p j h in grind arith
 pub any_below_none : (n : ℕ) (p : ℕ → Bool) → ((j : ℕ) → j < n → p j ≡ false) → any_below n p ≡ false
 any_below_none n p h = let found = (any_below_tells n p).0 in grind arith
 
--- one number more
-pub any_below_more : (n : ℕ) (p : ℕ → Bool) → any_below (n + 1) p ≡ (p n || any_below n p)
-any_below_more n p = rw add-one refl
-
--- one number more, which fails too
-pub none_below_more : (n : ℕ) (p : ℕ → Bool) → any_below n p ≡ false → p n ≡ false → any_below (n + 1) p ≡ false
-none_below_more n p h e = any_below_more n p ∙ or_from (p n) (any_below n p) e h
-
--- what is found is the highest: it passes, and none above it does
+-- the highest number of which a test holds: it passes, and none above it does
 abbrev pub Highest : ℕ → (ℕ → Bool) → Option ℕ → Type 0
-Highest n p r = MatchOption r ((k : ℕ) → k < n → p k ≡ false) (λ h. (h < n) × (p h ≡ true) × ((k : ℕ) → h < k → k < n → p k ≡ false))
+Highest n p None = (k : ℕ) → k < n → p k ≡ false
+Highest n p (Some h) = (h < n) × (p h ≡ true) × ((k : ℕ) → h < k → k < n → p k ≡ false)
 
+-- one number more
+highest_more : (n : ℕ) (p : ℕ → Bool) (r : Option ℕ) → Highest n p r → Highest (suc n) p (cond (p n) (Some n) r)
+highest_more n p None h = grind (arith, nat_tests)
+highest_more n p (Some b) h = grind (arith, nat_tests)
+
+-- what `highest` gives is the highest
+pub highest_tells : (n : ℕ) (p : ℕ → Bool) → Highest n p (highest n p)
+highest_tells zero p = λ k h. absurd (let z : k < 0 = h in omega arith)
+highest_tells (suc n) p = highest_more n p (highest n p) (highest_tells n p)
+
+-- and nothing else is
 pub highest_is : (n : ℕ) (p : ℕ → Bool) (r : Option ℕ) → Highest n p r → r ≡ highest n p
 highest_is zero p None l = refl
 highest_is zero p (Some h) l = absurd (omega (arith, l.0))

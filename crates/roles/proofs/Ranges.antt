@@ -1,11 +1,11 @@
 -- What searches of the numbers of a range answer.
-use Rattle.std.proofs.Common.{◌≡◌, ℕ, zero, suc, ◌+◌, ◌-◌, ◌*◌, ◌<◌, ◌≤◌, Bool, true, false, not, List, [], ◌∷◌, ◌||◌, IfSome, IsSomeAnd, MatchOption, IsTrue, Some, None, Option, sym, refl, ap, ap₂, ◌∙◌, arith}
+use Rattle.std.proofs.Common.{◌≡◌, ℕ, zero, suc, ◌+◌, ◌-◌, ◌*◌, ◌<◌, ◌≤◌, Bool, true, false, ◌||◌, IfSome, IsSomeAnd, MatchOption, IsTrue, Some, None, Option, sym, refl, ap, ap₂, ◌∙◌, arith}
 use mathlib.Core.Path.{fun_ext}
 use Rattle.std.specs.Fn.{Called, CalledAt}
-use Rattle.std.specs.Iterator.{ChecksAny, ChecksAll, FindsItem, FoldsItems}
+use Rattle.std.specs.Iterator.{ChecksAny, FindsItem, FoldsItems}
 use Rattle.std.specs.Iterator.Adapters.{rev_steps, RevKeepsRuns}
 use Rattle.std.specs.Iterator.Runs.{Run, SomeRun, CallKeepsClosure, NoItemPasses, EndsAtFirstPassing}
-use Rattle.std.specs.List.{list_any, list_all, find, fold, sum_by, range_with_len}
+use Rattle.std.specs.List.{list_any, find, fold, sum_by, range_with_len}
 use Rattle.std.specs.declared.iter.Rev.{Rev}
 use Rattle.std.specs.declared.ops.Range.{Range}
 use denote.Param.Members.{Mut}
@@ -13,7 +13,7 @@ use denote.Ref.{Bor}
 use Rattle.std.proofs.iter.Yields.{nat_range_steps}
 use Rattle.std.proofs.iter.runs.Sources.{nat_range_steps_back, range_runs_back}
 use Rattle.std.proofs.lemmas.Iterator.{YieldsList-from_range}
-use Rattle.std.proofs.lemmas.Iterator.Search.{all_from_yields_List, any_from_yields_List, find_from_yields_List}
+use Rattle.std.proofs.lemmas.Iterator.Search.{any_from_yields_List, find_from_yields_List}
 use Rattle.std.proofs.lemmas.Iterator.Consumers.{fold_from_yields_List}
 use Rattle.std.proofs.lemmas.Iterator.Adapters.{option_map_id}
 use Rattle.roles.specs.Functions.{any_below, highest}
@@ -46,18 +46,6 @@ pub any_below_range : {F : Type 0} {g : Mut F (ℕ × Unit {0}) Bool} (n : ℕ) 
     ((x : ℕ) (b : Bool) (q : F) → Called g f (x, tt) b q → (q ≡ f) × (b ≡ p x)) → r ≡ any_below n p
 any_below_range n p s u f r ran start end closed =
     any_in_range 0 n p s u f r ran start (omega arith) closed ∙ ap (any_below n) (fun_ext (λ j. ap p (omega arith)))
-
-none_listed : (p : ℕ → Bool) (xs : List ℕ) → list_all (λ x. not (p x)) xs ≡ not (list_any p xs)
-none_listed p [] = refl
-none_listed p (x ∷ xs) = let e = none_listed p xs in grind arith
-
--- what `all` answers of the numbers below n, where a test that it asks is the opposite
-pub none_below_range : {F : Type 0} {g : Mut F (ℕ × Unit {0}) Bool} (n : ℕ) (p : ℕ → Bool) (s u : Range ℕ) (f : F) (r : Bool) →
-    ChecksAll nat_range_steps g s f r u → s.start ≡ 0 → s.end ≡ n →
-    ((x : ℕ) (b : Bool) (q : F) → Called g f (x, tt) b q → (q ≡ f) × (b ≡ not (p x))) → r ≡ not (any_below n p)
-none_below_range n p s u f r ran start end closed =
-    all_from_yields_List (λ x. not (p x)) u f r ran (YieldsList-from_range s.start s.end n refl (omega arith)) closed
-    ∙ none_listed p _ ∙ ap (λ k. not (list_any p (range_with_len k n))) start ∙ ap not (any_from n 0 p) ∙ ap (λ q. not (any_below n q)) (fun_ext (λ j. ap p (omega arith)))
 
 -- what `fold` makes of the numbers below n, where `upto` says it of one number more
 fold_from : {B : Type 0} (f : B → ℕ → B) (upto : ℕ → B) → ((k : ℕ) → upto (k + 1) ≡ f (upto k) k) → (n k : ℕ) →
@@ -98,6 +86,10 @@ fold_at_most h m few (suc n) k a =
 pub sum_at_most : (h : ℕ → ℕ) (m : ℕ) → ((k : ℕ) → h k ≤ m) → (n : ℕ) → sum_by h (range_with_len 0 n) ≤ m * n
 sum_at_most h m few n = let z = fold_at_most h m few n 0 0 in omega arith
 
+pub some_is : (P : ℕ → Type 0) (o : Option ℕ) → IsSomeAnd o P → IfSome o P
+some_is P None h = absurd h
+some_is P (Some x) h = h
+
 -- what `rev` and then `find` answer of the numbers below n
 module _ {F : Type 0} {g : Mut F (Bor ℕ × Unit {0}) Bool} (n : ℕ) (p : ℕ → Bool) (s : Range ℕ) (f : F)
     (start : s.start ≡ 0) (end : s.end ≡ n) (closed : (x : ℕ) (b : Bool) (q : F) → CalledAt g f x b q → (q ≡ f) × (b ≡ p x)) where
@@ -108,10 +100,6 @@ module _ {F : Type 0} {g : Mut F (Bor ℕ × Unit {0}) Bool} (n : ℕ) (p : ℕ 
   given : (b : Bool) (x : ℕ) (o : Option ℕ) → o ≡ Some x → IfSome o (λ y. CalledAt g f y b f) → p x ≡ b
   given b x None e c = absurd (let z : ◌≡◌ {A = ℕ} 0 1 = cc in omega arith)
   given b x (Some y) e c = let d : y ≡ x = cc in sym (ap p d) ∙ sym (closed y b f c).1
-
-  some_is : (P : ℕ → Type 0) (o : Option ℕ) → IsSomeAnd o P → IfSome o P
-  some_is P None h = absurd h
-  some_is P (Some x) h = h
 
   -- the numbers come from n - 1 down
   down : (t : Rev (Range ℕ)) (u : Run (rev_steps nat_range_steps_back)) → RevKeepsRuns nat_range_steps_back s t → u.from ≡ t →
