@@ -1,8 +1,7 @@
 -- What is read of bytes is the frame that they were written of.
-use Rattle.std.proofs.Common.{◌≡◌, ℕ, suc, ◌+◌, ◌/◌, ◌%◌, ◌<◌, ◌≤◌, Bool, true, false, cond, leb, List, [], ◌∷◌, ◌++◌, length, take, drop, IfOk, Some, None, Ok, Err, Option, Result, sym, refl, ap, ◌∙◌, subst, ap₂, arith}
+use Rattle.std.proofs.Common.{◌≡◌, ℕ, suc, ◌+◌, ◌/◌, ◌%◌, ◌<◌, ◌≤◌, Bool, true, cond, leb, List, [], ◌∷◌, ◌++◌, length, take, drop, IfOk, Some, None, Ok, Err, Option, Result, sym, refl, ap, ◌∙◌, subst, ap₂, arith}
 use Rattle.std.specs.Option.{IsSome}
 use Rattle.std.proofs.lemmas.List.{get_or-drop, take_at}
-use Rattle.std.proofs.lemmas.Bool.{leb-true}
 use Rattle.std.proofs.lemmas.Bool.Decides.{nat_tests}
 use Rattle.body.specs.Words.{in_order}
 use Rattle.body.specs.declared.WireFault.{WireFault}
@@ -40,10 +39,7 @@ kind_number_named w k e = grind (arith, nat_tests)
 
 -- what was found at the front
 pub word_found : (bs : List ℕ) (w : ℕ) → Some w ≡ cond (leb 4 (length bs)) (Some (word_at bs 0)) None → (4 ≤ length bs) × (w ≡ word_at bs 0)
-word_found bs w e = go (leb 4 (length bs)) refl e where
-  go : (t : Bool) → leb 4 (length bs) ≡ t → Some w ≡ cond t (Some (word_at bs 0)) None → (4 ≤ length bs) × (w ≡ word_at bs 0)
-  go true p q = (leb-true 4 (length bs) p, (cc))
-  go false p q = absurd (let z : ◌≡◌ {A = ℕ} 0 1 = cc in omega arith)
+word_found bs w e = (grind (arith, nat_tests), grind (arith, nat_tests))
 
 -- a kind's number is a word
 kind_word : (k : FrameKind) →
@@ -123,20 +119,20 @@ module _ {B : Type 0} (words : B → List ℕ) (allows : List ℕ → ℕ → Bo
       ap word_bytes n ∙ bytes_again a b c d (four_small a b c d bs small) in
       ap (λ xs. a ∷ (b ∷ (c ∷ (d ∷ xs)))) (m.bytes ∙ ap words_bytes (sym m.all)) ∙
       (ap (λ xs. xs ++ words_bytes vs) (sym t) ∙ ap words_bytes q)
-  rest_exact a b c d bs ws kind small n (Err x) e h = absurd (let z : ◌≡◌ {A = ℕ} 0 1 = cc in omega arith)
+  rest_exact a b c d bs ws kind small n (Err x) e h = grind arith
 
   kind_exact : (a b c d : ℕ) (bs ws : List ℕ) → Bytes (a ∷ b ∷ c ∷ d ∷ bs) → (o : Option FrameKind) → kind_named (word_of a b c d) ≡ o →
       words_by_kind allows count o bs ≡ Ok ws → a ∷ b ∷ c ∷ d ∷ bs ≡ words_bytes ws
   kind_exact a b c d bs ws small (Some kind) e h =
       rest_exact a b c d bs ws kind small (kind_number_named (word_of a b c d) kind e)
       (words_on (kind_allows allows kind) (kind_count count kind) [] bs) refl h
-  kind_exact a b c d bs ws small None e h = absurd (let z : ◌≡◌ {A = ℕ} 0 1 = cc in omega arith)
+  kind_exact a b c d bs ws small None e h = grind arith
 
   pub words_exact : (bs ws : List ℕ) → Bytes bs → words_read allows count bs ≡ Ok ws → bs ≡ words_bytes ws
-  words_exact [] ws small h = absurd (let z : ◌≡◌ {A = ℕ} 0 1 = cc in omega arith)
-  words_exact (a ∷ []) ws small h = absurd (let z : ◌≡◌ {A = ℕ} 0 1 = cc in omega arith)
-  words_exact (a ∷ b ∷ []) ws small h = absurd (let z : ◌≡◌ {A = ℕ} 0 1 = cc in omega arith)
-  words_exact (a ∷ b ∷ c ∷ []) ws small h = absurd (let z : ◌≡◌ {A = ℕ} 0 1 = cc in omega arith)
+  words_exact [] ws small h = grind arith
+  words_exact (a ∷ []) ws small h = grind arith
+  words_exact (a ∷ b ∷ []) ws small h = grind arith
+  words_exact (a ∷ b ∷ c ∷ []) ws small h = grind arith
   words_exact (a ∷ b ∷ c ∷ d ∷ bs) ws small h = kind_exact a b c d bs ws small (kind_named (word_of a b c d)) refl h
 
   pub reads_exact : (bs : List ℕ) → Bytes bs → (r : Result (Frame B) WireFault) → Reads words allows count bs r →

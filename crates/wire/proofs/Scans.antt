@@ -46,7 +46,7 @@ module _ (allows : List ℕ → ℕ → Bool) (due : ℕ) where
         long = omega (arith, eqb-true (length before) due p);
         bytes = refl;
       }
-  none_left before ws false p e = absurd (let z : ◌≡◌ {A = ℕ} 0 1 = cc in omega arith)
+  none_left before ws false p e = grind arith
 
   one_more : (a b c d : ℕ) (bs before ws : List ℕ) → Bytes (a ∷ b ∷ c ∷ d ∷ bs) → allows before (word_of a b c d) ≡ true →
       Scanned (before ++ word_of a b c d ∷ []) bs ws → Scanned before (a ∷ b ∷ c ∷ d ∷ bs) ws
@@ -68,16 +68,16 @@ module _ (allows : List ℕ → ℕ → Bool) (due : ℕ) where
       (t u : Bool) → allows before (word_of a b c d) ≡ u →
       cond t (Err (stopped due before)) (cond u (words_on allows due (before ++ word_of a b c d ∷ []) bs) (Err (unfit_word before))) ≡ Ok ws →
       Scanned before (a ∷ b ∷ c ∷ d ∷ bs) ws
-  some_left a b c d bs before ws small rest true u p e = absurd (let z : ◌≡◌ {A = ℕ} 0 1 = cc in omega arith)
+  some_left a b c d bs before ws small rest true u p e = grind arith
   some_left a b c d bs before ws small rest false true p e = one_more a b c d bs before ws small p (rest e)
-  some_left a b c d bs before ws small rest false false p e = absurd (let z : ◌≡◌ {A = ℕ} 0 1 = cc in omega arith)
+  some_left a b c d bs before ws small rest false false p e = grind arith
 
   pub scan_read : (bs before ws : List ℕ) → Bytes bs → words_on allows due before bs ≡ Ok ws → Scanned before bs ws
   unfolding words_on
   scan_read [] before ws small e = none_left before ws (eqb (length before) due) refl e
-  scan_read (a ∷ []) before ws small e = absurd (let z : ◌≡◌ {A = ℕ} 0 1 = cc in omega arith)
-  scan_read (a ∷ b ∷ []) before ws small e = absurd (let z : ◌≡◌ {A = ℕ} 0 1 = cc in omega arith)
-  scan_read (a ∷ b ∷ c ∷ []) before ws small e = absurd (let z : ◌≡◌ {A = ℕ} 0 1 = cc in omega arith)
+  scan_read (a ∷ []) before ws small e = grind arith
+  scan_read (a ∷ b ∷ []) before ws small e = grind arith
+  scan_read (a ∷ b ∷ c ∷ []) before ws small e = grind arith
   scan_read (a ∷ b ∷ c ∷ d ∷ bs) before ws small e =
       some_left a b c d bs before ws small
       (scan_read bs (before ++ word_of a b c d ∷ []) ws (λ i. small (suc (suc (suc (suc i))))))
