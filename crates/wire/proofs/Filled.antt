@@ -1,11 +1,10 @@
 -- One turn of the reader, and its end.
-use Rattle.std.proofs.Common.{◌≡◌, ℕ, ◌+◌, ◌*◌, ◌<◌, ◌≤◌, Bool, true, false, cond, eqb, leb, List, [], ◌∷◌, ◌++◌, length, get_or, take, drop, Ok, Err, Result, sym, refl, ap, ◌∙◌, subst, arith}
+use Rattle.std.proofs.Common.{◌≡◌, ℕ, ◌+◌, ◌<◌, ◌≤◌, Bool, List, [], ◌∷◌, ◌++◌, length, get_or, drop, Ok, Err, Result, arith}
 use Rattle.std.proofs.lemmas.List.{drop_more, length-drop, drop_all, length_push}
 use Rattle.std.proofs.lemmas.Bool.Decides.{nat_tests}
 use Rattle.body.specs.declared.WireFault.{WireFault}
 use Rattle.body.specs.declared.WireRefusal.TheVariants.{EndsTooSoon, LeftOver}
-use Rattle.wire.specs.Bytes.{word_at}
-use Rattle.wire.specs.Reading.{words_on, stopped, unfit_word, place}
+use Rattle.wire.specs.Reading.{words_on, place}
 use Rattle.wire.specs.Filling.{next_word}
 
 drop_four : (bs : List ℕ) (i : ℕ) → i + 4 ≤ length bs →
