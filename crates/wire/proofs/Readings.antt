@@ -17,7 +17,6 @@ use Rattle.wire.specs.Reading.{words_on, words_read, words_by_kind, behind_kind,
 use Rattle.wire.specs.Filling.{RestReads}
 use Rattle.wire.proofs.WordBytes.{Bytes, bytes_again, four_small}
 use Rattle.wire.proofs.Scans.{scan_read, scan_written}
-use Rattle.wire.proofs.Written.{ok_same}
 use Rattle.wire.proofs.FrameWords.{frame_ranged, frame_long, frame_rebuilds, frame_spelled}
 
 pub bytes_drop : (n : ℕ) (bs : List ℕ) → Bytes bs → Bytes (drop n bs)
@@ -57,23 +56,15 @@ module _ {B : Type 0} (words : B → List ℕ) (allows : List ℕ → ℕ → Bo
     (written : (ws : List ℕ) → length ws ≡ count → in_order allows [] ws ≡ true → (b : B) × (words b ≡ ws))
     (rebuilding : (b : B) → rebuilt (words b) ≡ Some b) where
   -- words that were read make a frame
-  pub words_rebuild : (kind : FrameKind) (bs ws : List ℕ) → Bytes bs →
-      words_on (kind_allows allows kind) (kind_count count kind) [] bs ≡ Ok ws →
-      (f : Frame B) × (kind_of f.payload.content ≡ kind) × (rest_words words f ≡ ws) × (frame_rebuilt rebuilt kind ws ≡ Some f)
-  words_rebuild kind bs ws small e =
-      let m = scan_read (kind_allows allows kind) (kind_count count kind) bs [] ws small e in
-      let t = frame_spelled words allows count written kind m.vs m.ranged (omega (arith, m.long)) in
-      let q : rest_words words t.0 ≡ ws = t.2 ∙ sym m.all in
-      let r = frame_rebuilds words allows count rebuilt rebuilding t.0 in
-      (t.0, t.1, q, ap₂ (λ k xs. frame_rebuilt rebuilt k xs) (sym t.1) (sym q) ∙ r)
-
-  -- the frame that is rebuilt from the words that were read
   rest_made : (kind : FrameKind) (bs ws : List ℕ) (o : Option (Frame B)) → Bytes bs →
       words_on (kind_allows allows kind) (kind_count count kind) [] (drop 4 bs) ≡ Ok ws → o ≡ frame_rebuilt rebuilt kind ws →
       (f : Frame B) × (o ≡ Some f) × RestReads words allows count kind bs (Ok f)
   rest_made kind bs ws o small e q =
-      let m = words_rebuild kind (drop 4 bs) ws (bytes_drop 4 bs small) e in
-      (m.0, q ∙ m.3, (m.1, e ∙ ap Ok (sym m.2)))
+      let m = scan_read (kind_allows allows kind) (kind_count count kind) (drop 4 bs) [] ws (bytes_drop 4 bs small) e in
+      let t = frame_spelled words allows count written kind m.vs m.ranged (omega (arith, m.long)) in
+      let p : ws ≡ rest_words words t.0 = m.all ∙ sym t.2 in
+      let r = ap₂ (λ k xs. frame_rebuilt rebuilt k xs) (sym t.1) p ∙ frame_rebuilds words allows count rebuilt rebuilding t.0 in
+      (t.0, q ∙ r, (t.1, e ∙ ap Ok p))
 
   -- there is one
   pub rest_there : (kind : FrameKind) (bs ws : List ℕ) (o : Option (Frame B)) → Bytes bs →
@@ -115,10 +106,8 @@ module _ {B : Type 0} (words : B → List ℕ) (allows : List ℕ → ℕ → Bo
   rest_exact a b c d bs ws kind small n (Ok vs) e h =
       let m = scan_read (kind_allows allows kind) (kind_count count kind) bs [] vs (λ i. small (suc (suc (suc (suc i))))) e in
       let q : kind_number kind ∷ vs ≡ ws = cc in
-      let t : word_bytes (kind_number kind) ≡ a ∷ (b ∷ (c ∷ (d ∷ []))) =
-      ap word_bytes n ∙ bytes_again a b c d (four_small a b c d bs small) in
-      ap (λ xs. a ∷ (b ∷ (c ∷ (d ∷ xs)))) (m.bytes ∙ ap words_bytes (sym m.all)) ∙
-      (ap (λ xs. xs ++ words_bytes vs) (sym t) ∙ ap words_bytes q)
+      let t = ap word_bytes n ∙ bytes_again a b c d (four_small a b c d bs small) in
+      grind arith
   rest_exact a b c d bs ws kind small n (Err x) e h = grind arith
 
   kind_exact : (a b c d : ℕ) (bs ws : List ℕ) → Bytes (a ∷ b ∷ c ∷ d ∷ bs) → (o : Option FrameKind) → kind_named (word_of a b c d) ≡ o →
@@ -163,7 +152,8 @@ module _ {B : Type 0} (words : B → List ℕ) (allows : List ℕ → ℕ → Bo
   -- whatever reading answers to what is written of a frame, it is that frame
   pub reads_back : (f : Frame B) (r : Result (Frame B) WireFault) → Reads words allows count (frame_bytes words f) r → r ≡ Ok f
   reads_back f (Ok g) h =
-      let e : frame_words words g ≡ frame_words words f = ok_same (sym h ∙ words_again f) in
+      let a = words_again f in
+      let e : frame_words words g ≡ frame_words words f = grind arith in
       ap Ok (same_words g f e)
   reads_back f (Err x) h = absurd (let a = words_again f in let z : ◌≡◌ {A = ℕ} 0 1 = cc in omega arith)
 
