@@ -1,3 +1,4 @@
 pub mod Blank
+pub mod Changes
 pub mod Searches
 pub mod TicketLaws

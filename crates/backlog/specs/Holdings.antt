@@ -2,12 +2,11 @@
 use Rattle.std.specs.Prelude.{ℕ, ◌+◌, ◌-◌, ◌%◌, min, Bool, cond, ◌&&◌, nat_le, nat_lt, slice_index_or}
 use Rattle.frame.specs.declared.RoleNumber.{RoleNumber}
 use Rattle.roles.specs.Functions.{put}
-use Rattle.backlog.specs.Blanks.{no_held, no_message_row, no_stub, no_ticket_row}
+use Rattle.backlog.specs.Blanks.{no_held, no_stub, no_row}
 use Rattle.backlog.specs.declared.backlog.Backlog.{Backlog}
 use Rattle.backlog.specs.declared.rows.Held.{Held}
-use Rattle.backlog.specs.declared.rows.MessageRow.{MessageRow}
+use Rattle.backlog.specs.declared.rows.Row as rows
 use Rattle.backlog.specs.declared.rows.Stub.{Stub}
-use Rattle.backlog.specs.declared.rows.TicketRow.{TicketRow}
 
 -- things that follow each other: how many were passed on, how many are held, and what lies at each place
 pub record Row (A : Type 0) : Type 0 where
@@ -20,23 +19,27 @@ pub record Holding : Type 0 where
   pub messages : ℕ → Row Held
   pub tickets : ℕ → Row Stub
 
-abbrev pub message_row : MessageRow → Row Held
-message_row r = record { passed = r.passed.0; count = r.count; slot = λ i. slice_index_or r.slots i no_held }
+-- what a row means, where d stands beyond its last slot
+abbrev pub row_of : {A : Type 0} {n : ℕ} → A → rows.Row A n → Row A
+row_of d r = record { passed = r.passed; count = r.count; slot = λ i. slice_index_or r.slots i d }
 
-abbrev pub ticket_row : TicketRow → Row Stub
-ticket_row r = record { passed = r.passed; count = r.count; slot = λ i. slice_index_or r.slots i no_stub }
+abbrev pub message_row : rows.Row Held 8 → Row Held
+message_row = row_of no_held
+
+abbrev pub ticket_row : rows.Row Stub 16 → Row Stub
+ticket_row = row_of no_stub
 
 abbrev pub holding_of : Backlog → Holding
 holding_of b = record {
-  messages = λ x. message_row (slice_index_or b.messages x no_message_row);
-  tickets = λ i. ticket_row (slice_index_or b.tickets i no_ticket_row);
+  messages = λ x. message_row (slice_index_or b.messages x (no_row 8));
+  tickets = λ i. ticket_row (slice_index_or b.tickets i (no_row 16));
 }
 
+abbrev pub nothing_in : {A : Type 0} → A → Row A
+nothing_in d = record { passed = 0; count = 0; slot = λ i. d }
+
 abbrev pub nothing_held : Holding
-nothing_held = record {
-  messages = λ x. record { passed = 0; count = 0; slot = λ i. no_held };
-  tickets = λ b. record { passed = 0; count = 0; slot = λ i. no_stub };
-}
+nothing_held = record { messages = λ x. nothing_in no_held; tickets = λ b. nothing_in no_stub }
 
 module _ {A : Type 0} where
   -- one more held, at a place

@@ -1,75 +1,24 @@
 // Holding messages and tickets, and letting them go.
-ghost use Rattle.std.specs.Prelude.{◌≡◌, ℕ, ◌+◌, ◌%◌, ◌<◌, ◌≤◌, true, length, slice_index_or};
-ghost use Rattle.backlog.specs.Blanks.{no_held, no_message_row};
+ghost use Rattle.std.specs.Prelude.{◌≡◌, ◌<◌, ◌≤◌, true, length, slice_index_or};
+ghost use Rattle.backlog.specs.Blanks.{no_held};
 ghost use Rattle.backlog.specs.Sweeps.{Swept};
-ghost use Rattle.backlog.specs.Holdings.{assign_to, is_between, holding_of, nothing_held, message_row, ticket_row, stored, popped, dropped, reassigned_row, number_at, hold_message, hold_ticket, pass_first, drop_messages, reassigned, reassigned_all, holds_message, message_at};
+ghost use Rattle.backlog.specs.Holdings.{assign_to, is_between, holding_of, nothing_held, message_row, reassigned_row, number_at, hold_message, hold_ticket, pass_first, drop_messages, reassigned, reassigned_all, holds_message, message_at};
 
 use crate::backlog::Backlog;
-use crate::rows::{Held, MessageRow, Stub, TicketRow};
-use frame::{MessageNumber, RoleNumber, TicketNumber};
+use crate::rows::{Held, MessageRow, Row, Stub};
+use frame::{MessageNumber, PrinterNumber, RoleNumber, TicketNumber};
 use roles::RecordKind;
 
-const NO_MESSAGES: MessageRow = MessageRow {
-    passed: MessageNumber(0),
-    count: 0,
-    slots: [Held {
-        kind: RecordKind::Data,
-        assigned: (0, RoleNumber(0)),
-    }; 8],
+const NO_HELD: Held = Held {
+    kind: RecordKind::Data,
+    assigned: (0, RoleNumber(0)),
 };
 
-const NO_TICKETS: TicketRow = TicketRow {
-    passed: 0,
-    count: 0,
-    slots: [Stub {
-        number: TicketNumber(0),
-        sender: 0,
-        message: MessageNumber(0),
-    }; 16],
+const NO_STUB: Stub = Stub {
+    number: TicketNumber(0),
+    sender: 0,
+    message: MessageNumber(0),
 };
-
-impl MessageRow {
-    fn store(&mut self, number: MessageNumber, message: Held)
-        requires { self.old.count < 8 }
-        ensures { message_row self.new ≡ stored (message_row self.old) (number.0 % 8) message }
-    {
-        self.slots[(number.0 % 8) as usize] = message;
-        self.count += 1;
-    }
-
-    fn pop(&mut self)
-        requires { self.old.passed.0 < 65536 }
-        ensures { message_row self.new ≡ popped (message_row self.old) }
-    {
-        self.passed = MessageNumber(self.passed.0 + 1);
-        self.count = self.count.saturating_sub(1);
-    }
-
-    fn clear(&mut self)
-        ensures { message_row self.new ≡ dropped (message_row self.old) }
-    {
-        self.count = 0;
-    }
-}
-
-impl TicketRow {
-    fn store(&mut self, stub: Stub)
-        requires count_bound { self.old.count < 16 }
-        requires passed_bound { self.old.passed ≤ 65536 }
-        ensures { ticket_row self.new ≡ stored (ticket_row self.old) ((self.old.passed + self.old.count) % 16) stub }
-    {
-        self.slots[((self.passed + self.count) % 16) as usize] = stub;
-        self.count += 1;
-    }
-
-    fn pop(&mut self)
-        requires { self.old.passed < 65536 }
-        ensures { ticket_row self.new ≡ popped (ticket_row self.old) }
-    {
-        self.passed += 1;
-        self.count = self.count.saturating_sub(1);
-    }
-}
 
 impl Backlog {
     // Nothing held, and nothing passed on.
@@ -77,107 +26,86 @@ impl Backlog {
         ensures { holding_of result ≡ nothing_held }
     {
         Backlog {
-            messages: [NO_MESSAGES; 8],
-            tickets: [NO_TICKETS; 8],
+            messages: [Row::empty(NO_HELD); 8],
+            tickets: [Row::empty(NO_STUB); 8],
         }
     }
 
-    pub fn hold_message(&mut self, sender: u32, number: MessageNumber, message: Held)
-        requires sender_bound { sender < 8 }
-        requires room { ((holding_of self.old).messages sender).count < 8 }
-        ensures { holding_of self.new ≡ hold_message (holding_of self.old) sender number.0 message }
+    pub fn hold_message(&mut self, sender: PrinterNumber, number: MessageNumber, message: Held)
+        requires room { ((holding_of self.old).messages sender.value).count < 8 }
+        ensures { holding_of self.new ≡ hold_message (holding_of self.old) sender.value number.0 message }
     {
-        self.messages[sender as usize].store(number, message);
+        let row = &mut self.messages[sender.index()];
+        row.store(number.0, message);
     }
 
-    pub fn hold_ticket(&mut self, issuer: u32, stub: Stub)
-        requires issuer_bound { issuer < 8 }
-        requires room { ((holding_of self.old).tickets issuer).count < 16 }
-        ensures { holding_of self.new ≡ hold_ticket (holding_of self.old) issuer stub }
+    pub fn hold_ticket(&mut self, issuer: PrinterNumber, stub: Stub)
+        requires room { ((holding_of self.old).tickets issuer.value).count < 16 }
+        ensures { holding_of self.new ≡ hold_ticket (holding_of self.old) issuer.value stub }
     {
-        self.tickets[issuer as usize].store(stub);
+        let row = &mut self.tickets[issuer.index()];
+        row.store(row.passed + row.count, stub);
     }
-}
-
-// Whether a message of a sender is held, by the rows of all senders.
-fn held_in(rows: &[MessageRow], sender: u32, number: MessageNumber) -> bool
-    requires few { (x : ℕ) → (slice_index_or rows.now x no_message_row).count ≤ 8 }
-    requires low { (x : ℕ) → (slice_index_or rows.now x no_message_row).passed.0 ≤ 65536 }
-    ensures there { result ≡ true → sender < length rows.now }
-    ensures answer { result ≡ is_between (slice_index_or rows.now sender no_message_row).passed.0 ((slice_index_or rows.now sender no_message_row).passed.0 + (slice_index_or rows.now sender no_message_row).count) number.0 }
-{
-    if sender as usize >= rows.len() {
-        return false;
-    }
-    let row = &rows[sender as usize];
-    row.passed.0 < number.0 && number.0 <= row.passed.0 + row.count
 }
 
 // Of the eight numbers after `passed` the one that lies at a place.
-fn number_at(passed: MessageNumber, place: usize) -> MessageNumber
+fn number_at(passed: u32, place: usize) -> u32
     requires place_bound { place < 8 }
-    requires passed_bound { passed.0 ≤ 65536 }
-    ensures { result.0 ≡ number_at passed.0 place }
+    requires passed_bound { passed ≤ 65536 }
+    ensures { result ≡ number_at passed place }
 {
-    let next = passed.0 + 1;
-    MessageNumber(next + (place as u32 + 8 - next % 8) % 8)
+    let next = passed + 1;
+    next + (place as u32 + 8 - next % 8) % 8
 }
 
 // Gives the messages of a row after `last` up to `sent` to another sequencer; `passed` was passed on before them.
 fn reassign_slots(
     slots: &mut [Held],
-    passed: MessageNumber,
-    last: MessageNumber,
-    sent: MessageNumber,
+    passed: u32,
+    last: u32,
+    sent: u32,
     assigned: (u32, RoleNumber),
 )
-    requires passed_bound { passed.0 ≤ 65536 }
+    requires passed_bound { passed ≤ 65536 }
     requires slots_len { length slots.old ≡ 8 }
-    ensures { Swept no_held (λ i. slice_index_or slots.old i no_held) (λ i. is_between last.0 sent.0 (number_at passed.0 i)) (assign_to assigned) slots.new 8 }
+    ensures { Swept no_held (λ i. slice_index_or slots.old i no_held) (λ i. is_between last sent (number_at passed i)) (assign_to assigned) slots.new 8 }
 {
-    for place in 0..slots.len() {
+    for (place, held) in slots.iter_mut().enumerate() {
         let number = number_at(passed, place);
         if last < number && number <= sent {
-            slots[place].assigned = assigned;
+            held.assigned = assigned;
         }
     }
 }
 
-impl MessageRow {
-    // Gives the held messages after `last` up to `sent` to another sequencer.
-    fn reassign(&mut self, last: MessageNumber, sent: MessageNumber, assigned: (u32, RoleNumber))
-        requires passed_bound { self.old.passed.0 ≤ 65536 }
-        requires count_bound { self.old.count ≤ 8 }
-        ensures { message_row self.new ≡ reassigned_row (message_row self.old) last.0 sent.0 assigned }
-    {
-        let end = MessageNumber(sent.0.min(self.passed.0 + self.count));
-        reassign_slots(&mut self.slots, self.passed, last, end, assigned);
-    }
+// Gives the held messages after `last` up to `sent` to another sequencer.
+fn reassign_row(row: &mut MessageRow, last: u32, sent: u32, assigned: (u32, RoleNumber))
+    ensures { message_row row.new ≡ reassigned_row (message_row row.old) last sent assigned }
+{
+    let end = sent.min(row.passed + row.count);
+    reassign_slots(&mut row.slots, row.passed, last, end, assigned);
 }
 
 impl Backlog {
     // Gives the held messages of a sender after `last` up to `sent` to another sequencer.
     pub fn reassign(
         &mut self,
-        sender: u32,
+        sender: PrinterNumber,
         last: MessageNumber,
         sent: MessageNumber,
         assigned: (u32, RoleNumber),
     )
-        requires { sender < 8 }
-        ensures { holding_of self.new ≡ reassigned (holding_of self.old) sender last.0 sent.0 assigned }
+        ensures { holding_of self.new ≡ reassigned (holding_of self.old) sender.value last.0 sent.0 assigned }
     {
-        self.messages[sender as usize].reassign(last, sent, assigned);
+        reassign_row(&mut self.messages[sender.index()], last.0, sent.0, assigned);
     }
 
     // Gives all held messages of a sender to another sequencer.
-    pub fn reassign_all(&mut self, sender: u32, assigned: (u32, RoleNumber))
-        requires { sender < 8 }
-        ensures { holding_of self.new ≡ reassigned_all (holding_of self.old) sender assigned }
+    pub fn reassign_all(&mut self, sender: PrinterNumber, assigned: (u32, RoleNumber))
+        ensures { holding_of self.new ≡ reassigned_all (holding_of self.old) sender.value assigned }
     {
-        let last = self.messages[sender as usize].passed;
-        let sent = MessageNumber(last.0 + self.messages[sender as usize].count);
-        self.reassign(sender, last, sent, assigned);
+        let row = &mut self.messages[sender.index()];
+        reassign_row(row, row.passed, row.passed + row.count, assigned);
     }
 
     // Whether a message of a sender is held.
@@ -185,34 +113,32 @@ impl Backlog {
         ensures answer { result ≡ holds_message (holding_of self.now) sender number.0 }
         ensures there { result ≡ true → sender < 8 }
     {
-        held_in(&self.messages, sender, number)
+        self.messages
+            .get(sender as usize)
+            .is_some_and(|row| row.passed < number.0 && number.0 <= row.passed + row.count)
     }
 
     // What is kept of a held message.
-    pub fn message(&self, sender: u32, number: MessageNumber) -> Held
-        requires { sender < 8 }
-        ensures { result ≡ message_at (holding_of self.now) sender number.0 }
+    pub fn message(&self, sender: PrinterNumber, number: MessageNumber) -> Held
+        ensures { result ≡ message_at (holding_of self.now) sender.value number.0 }
     {
-        self.messages[sender as usize].slots[(number.0 % 8) as usize]
+        self.messages[sender.index()].slot(number.0)
     }
 
     // The first held message of a sender and the first held ticket of an issuer are passed on.
-    pub fn pass_first(&mut self, sender: u32, issuer: u32)
-        requires sender_bound { sender < 8 }
-        requires issuer_bound { issuer < 8 }
-        requires sender_low { ((holding_of self.old).messages sender).passed < 65536 }
-        requires issuer_low { ((holding_of self.old).tickets issuer).passed < 65536 }
-        ensures { holding_of self.new ≡ pass_first (holding_of self.old) sender issuer }
+    pub fn pass_first(&mut self, sender: PrinterNumber, issuer: PrinterNumber)
+        requires sender_low { ((holding_of self.old).messages sender.value).passed < 65536 }
+        requires issuer_low { ((holding_of self.old).tickets issuer.value).passed < 65536 }
+        ensures { holding_of self.new ≡ pass_first (holding_of self.old) sender.value issuer.value }
     {
-        self.messages[sender as usize].pop();
-        self.tickets[issuer as usize].pop();
+        self.messages[sender.index()].pop();
+        self.tickets[issuer.index()].pop();
     }
 
     // No message of a sender is held any more.
-    pub fn drop_messages(&mut self, sender: u32)
-        requires { sender < 8 }
-        ensures { holding_of self.new ≡ drop_messages (holding_of self.old) sender }
+    pub fn drop_messages(&mut self, sender: PrinterNumber)
+        ensures { holding_of self.new ≡ drop_messages (holding_of self.old) sender.value }
     {
-        self.messages[sender as usize].clear();
+        self.messages[sender.index()].clear();
     }
 }

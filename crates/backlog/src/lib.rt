@@ -2,10 +2,12 @@
 #![tactic(auto)]
 
 mod backlog;
+mod counting;
 mod holding;
 mod rows;
+mod storing;
 mod tickets;
 mod wanted;
 
 pub use backlog::Backlog;
-pub use rows::{Held, MessageRow, Stub, Ticket, TicketRow};
+pub use rows::{Held, MessageRow, Row, Stub, Ticket, TicketRow};

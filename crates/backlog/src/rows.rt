@@ -1,6 +1,32 @@
 // What is held of one sender and of one issuer.
+ghost use Rattle.std.specs.Prelude.{◌≡◌, ◌≤◌, ⊤};
+
 use frame::{MessageNumber, RoleNumber, TicketNumber};
 use roles::RecordKind;
+use std::alloc::AllocError;
+
+// The things of one sender or of one issuer, in their order: the first `passed` of them were passed on, and the next
+// `count` are held. Thing k lies at k modulo N. A list has at most 65,536 records, so no more than that are ever passed
+// on.
+#[derive(Copy)]
+pub struct Row<T, const N: usize> {
+    pub passed: u32,
+    pub count: u32,
+    pub slots: [T; N],
+    ghost few: { count ≤ N },
+    ghost low: { passed ≤ 65536 },
+}
+
+// By hand: the derive does not cover a generic struct with ghost fields.
+impl<T: Copy, const N: usize> Clone for Row<T, N> {
+    ghost is_clone = { λ given copy. copy ≡ given };
+
+    ghost is_infallible = { λ _. ⊤ };
+
+    fn clone(&self) -> Result<Self, AllocError> {
+        Ok(*self)
+    }
+}
 
 // A message that is not delivered yet, and the sequencer that it is assigned to, under that printer's role number.
 #[derive(Clone, Copy)]
@@ -9,14 +35,8 @@ pub struct Held {
     pub assigned: (u32, RoleNumber),
 }
 
-// The messages held of one sender. Their numbers follow each other: `passed` is the last one passed on, and `count` more
-// are held. Message k lies at k modulo 8.
-#[derive(Clone, Copy)]
-pub struct MessageRow {
-    pub passed: MessageNumber,
-    pub count: u32,
-    pub slots: [Held; 8],
-}
+// The messages held of one sender. They are numbered from 1, so `passed` is the number of the last one passed on too.
+pub type MessageRow = Row<Held, 8>;
 
 // What is kept of a ticket in its issuer's row.
 #[derive(Clone, Copy)]
@@ -26,14 +46,9 @@ pub struct Stub {
     pub message: MessageNumber,
 }
 
-// The tickets held of one issuer, in the order in which it issued them, which is that of their numbers. The first
-// `passed` of its tickets were passed on, and the next `count` are held. Its ticket m, from 0, lies at m modulo 16.
-#[derive(Clone, Copy)]
-pub struct TicketRow {
-    pub passed: u32,
-    pub count: u32,
-    pub slots: [Stub; 16],
-}
+// The tickets held of one issuer, numbered from 0 in the order in which it issued them, which is that of their own
+// numbers.
+pub type TicketRow = Row<Stub, 16>;
 
 // A ticket: its number, who issued it, and the message that it gives a place.
 #[derive(Clone, Copy)]

@@ -4,8 +4,8 @@ ghost use Rattle.backlog.specs.Holdings.{holding_of, ticket_row};
 ghost use Rattle.backlog.specs.Tickets.{is_for, before, lesser, first_or, first_ticket, names, ticketed, tickets_held};
 
 use crate::backlog::Backlog;
-use crate::rows::{Stub, Ticket, TicketRow};
-use frame::MessageNumber;
+use crate::rows::{Row, Stub, Ticket};
+use frame::{MessageNumber, PrinterCount};
 
 impl Ticket {
     // Tickets stand by number, then by issuer.
@@ -20,14 +20,8 @@ impl Ticket {
         ensures { result ≡ lesser self other }
     {
         match other {
-            Some(ticket) => {
-                if self.is_before(ticket) {
-                    Some(self)
-                } else {
-                    other
-                }
-            }
-            None => Some(self),
+            Some(ticket) if !self.is_before(ticket) => other,
+            _ => Some(self),
         }
     }
 }
@@ -40,14 +34,7 @@ impl Stub {
     }
 }
 
-impl TicketRow {
-    // The ticket m of the issuer, of all those that it issued.
-    fn stub(&self, m: u32) -> Stub
-        ensures { result ≡ (ticket_row self.now).slot (m % 16) }
-    {
-        self.slots[(m % 16) as usize]
-    }
-
+impl Row<Stub, 16> {
     // The first of this issuer's held tickets, if it stands before another.
     fn first_or(&self, issuer: u32, other: Option<Ticket>) -> Option<Ticket>
         ensures { result ≡ first_or issuer (ticket_row self.now) other }
@@ -59,7 +46,7 @@ impl TicketRow {
             number,
             sender,
             message,
-        } = self.stub(self.passed);
+        } = self.slot(self.passed);
         let ticket = Ticket {
             number,
             issuer,
@@ -71,55 +58,63 @@ impl TicketRow {
 
     // Whether a held ticket names this message.
     fn names(&self, sender: u32, message: MessageNumber) -> bool
-        requires passed_bound { self.now.passed ≤ 65536 }
-        requires count_bound { self.now.count ≤ 16 }
         ensures { result ≡ names (ticket_row self.now) sender message.0 }
     {
-        for i in 0..self.count {
-            if self.stub(self.passed + i).is_for(sender, message) {
-                return true;
-            }
-        }
-        false
+        (self.passed..self.passed + self.count).any(|m| self.slot(m).is_for(sender, message))
     }
 }
 
 impl Backlog {
-    // The first held ticket of all issuers.
-    pub fn first_ticket(&self, count: u32) -> Option<Ticket>
-        requires { count < 9 }
-        ensures answer { result ≡ first_ticket count (holding_of self.now) }
-        ensures there { IfSome result (λ t. (t.issuer < count) × (0 < ((holding_of self.now).tickets t.issuer).count)) }
+    // The first held ticket of this issuer, if it stands before another.
+    fn first_or(&self, issuer: u32, other: Option<Ticket>) -> Option<Ticket>
+        requires { issuer < 8 }
+        ensures { result ≡ first_or issuer ((holding_of self.now).tickets issuer) other }
     {
-        let mut first = None;
-        for issuer in 0..count {
-            first = self.tickets[issuer as usize].first_or(issuer, first);
-        }
-        first
+        self.tickets[issuer as usize].first_or(issuer, other)
+    }
+
+    // The first held ticket of all issuers.
+    pub fn first_ticket(&self, count: PrinterCount) -> Option<Ticket>
+        ensures answer { result ≡ first_ticket count.value (holding_of self.now) }
+        ensures there { IfSome result (λ t. (t.issuer < count.value) × (0 < ((holding_of self.now).tickets t.issuer).count)) }
+    {
+        (0..count.value).fold(None, |first, issuer| self.first_or(issuer, first))
+    }
+
+    // Whether a ticket of this issuer names this message.
+    fn names(&self, issuer: u32, sender: u32, message: MessageNumber) -> bool
+        requires { issuer < 8 }
+        ensures { result ≡ names ((holding_of self.now).tickets issuer) sender message.0 }
+    {
+        self.tickets[issuer as usize].names(sender, message)
     }
 
     // Whether a message has a ticket.
-    pub(crate) fn is_ticketed(&self, count: u32, sender: u32, message: MessageNumber) -> bool
-        requires { count < 9 }
-        ensures { result ≡ ticketed count (holding_of self.now) sender message.0 }
+    pub(crate) fn is_ticketed(
+        &self,
+        count: PrinterCount,
+        sender: u32,
+        message: MessageNumber,
+    ) -> bool
+        ensures { result ≡ ticketed count.value (holding_of self.now) sender message.0 }
     {
-        for issuer in 0..count {
-            if self.tickets[issuer as usize].names(sender, message) {
-                return true;
-            }
-        }
-        false
+        (0..count.value).any(|issuer| self.names(issuer, sender, message))
+    }
+
+    // How many tickets of this issuer are held.
+    fn held_of(&self, issuer: u32) -> u32
+        requires { issuer < 8 }
+        ensures answer { result ≡ ((holding_of self.now).tickets issuer).count }
+        ensures few { result ≤ 16 }
+    {
+        let row = &self.tickets[issuer as usize];
+        row.count
     }
 
     // How many tickets are held.
-    pub fn tickets_held(&self, count: u32) -> u32
-        requires { count < 9 }
-        ensures { result ≡ tickets_held count (holding_of self.now) }
+    pub fn tickets_held(&self, count: PrinterCount) -> u32
+        ensures { result ≡ tickets_held count.value (holding_of self.now) }
     {
-        let mut held = 0;
-        for issuer in 0..count {
-            held += self.tickets[issuer as usize].count;
-        }
-        held
+        (0..count.value).map(|issuer| self.held_of(issuer)).sum()
     }
 }

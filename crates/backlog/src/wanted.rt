@@ -1,86 +1,105 @@
 // Which held message is to get a ticket.
-ghost use Rattle.std.specs.Prelude.{◌≡◌, ◌<◌, ◌≤◌, IfSome};
+ghost use Rattle.std.specs.Prelude.{◌≡◌, ◌+◌, ◌%◌, ◌<◌, ◌≤◌, IfSome};
+ghost use Rattle.std.specs.Option.{option_map};
 ghost use Rattle.backlog.specs.Holdings.{holding_of};
 ghost use Rattle.backlog.specs.Wanted.{wants, wanted_of, wanted, down_ticketed, is_ticketed_down};
 
 use crate::backlog::Backlog;
-use frame::{MessageNumber, RoleNumber};
+use frame::{MessageNumber, PrinterCount, PrinterNumber, RoleNumber};
 use roles::RecordKind;
+use std::ops::Range;
 
 impl Backlog {
     // Whether a message is assigned to this sequencer and has no ticket.
-    fn wants(&self, count: u32, to: (u32, RoleNumber), sender: u32, message: MessageNumber) -> bool
-        requires count_bound { count < 9 }
-        requires sender_bound { sender < 8 }
-        ensures { result ≡ wants count (holding_of self.now) to sender message.0 }
+    fn wants(
+        &self,
+        count: PrinterCount,
+        to: (u32, RoleNumber),
+        sender: PrinterNumber,
+        message: MessageNumber,
+    ) -> bool
+        ensures { result ≡ wants count.value (holding_of self.now) to sender.value message.0 }
     {
-        self.message(sender, message).assigned == to && !self.is_ticketed(count, sender, message)
+        self.message(sender, message).assigned == to
+            && !self.is_ticketed(count, sender.value, message)
+    }
+
+    // The numbers of the held messages of a sender.
+    fn numbers(&self, sender: PrinterNumber) -> Range<u32>
+        ensures first { result.start ≡ ((holding_of self.now).messages sender.value).passed + 1 }
+        ensures end { result.end ≡ ((holding_of self.now).messages sender.value).passed + 1 + ((holding_of self.now).messages sender.value).count }
+    {
+        let row = &self.messages[sender.index()];
+        let first = row.passed + 1;
+        first..first + row.count
     }
 
     // The lowest message of a sender that wants a ticket of this sequencer.
     fn wanted_of(
         &self,
-        count: u32,
+        count: PrinterCount,
         to: (u32, RoleNumber),
-        sender: u32,
-    ) -> Option<(u32, MessageNumber)>
-        requires count_bound { count < 9 }
-        requires sender_bound { sender < 8 }
-        ensures answer { result ≡ wanted_of count (holding_of self.now) to sender }
-        ensures there { IfSome result (λ m. (m.0 < 8) × (1 ≤ m.1.0)) }
+        sender: PrinterNumber,
+    ) -> Option<(PrinterNumber, MessageNumber)>
+        ensures answer { option_map (λ m. (m.0.value, m.1)) result ≡ wanted_of count.value (holding_of self.now) to sender.value }
+        ensures there { IfSome result (λ m. 1 ≤ m.1.0) }
     {
-        let row = &self.messages[sender as usize];
-        for i in 0..row.count {
-            let message = MessageNumber(row.passed.0 + 1 + i);
-            if self.wants(count, to, sender, message) {
-                return Some((sender, message));
-            }
-        }
-        None
+        self.numbers(sender)
+            .find(|number| self.wants(count, to, sender, MessageNumber(*number)))
+            .map(|number| (sender, MessageNumber(number)))
+    }
+
+    // The same of the sender at a place in the circle of all senders.
+    fn wanted_at(
+        &self,
+        count: PrinterCount,
+        to: (u32, RoleNumber),
+        place: u32,
+    ) -> Option<(PrinterNumber, MessageNumber)>
+        requires { 0 < count.value }
+        ensures answer { option_map (λ m. (m.0.value, m.1)) result ≡ wanted_of count.value (holding_of self.now) to (place % count.value) }
+        ensures there { IfSome result (λ m. 1 ≤ m.1.0) }
+    {
+        let sender = PrinterNumber {
+            value: place % count.value,
+        };
+        self.wanted_of(count, to, sender)
     }
 
     // The first message that wants a ticket of this sequencer. The senders are tried in a circle that begins at `from`.
     pub fn wanted(
         &self,
-        count: u32,
+        count: PrinterCount,
         to: (u32, RoleNumber),
         from: u32,
-    ) -> Option<(u32, MessageNumber)>
-        requires count_bound { count < 9 }
+    ) -> Option<(PrinterNumber, MessageNumber)>
         requires from_bound { from < 9 }
-        ensures answer { result ≡ wanted count (holding_of self.now) to from }
-        ensures there { IfSome result (λ m. (m.0 < 8) × (1 ≤ m.1.0)) }
+        ensures answer { option_map (λ m. (m.0.value, m.1)) result ≡ wanted count.value (holding_of self.now) to from }
+        ensures there { IfSome result (λ m. 1 ≤ m.1.0) }
     {
-        for i in 0..count {
-            let found = self.wanted_of(count, to, (from + i) % count);
-            if found.is_some() {
-                return found;
-            }
-        }
-        None
+        (from..from + count.value).find_map(|place| self.wanted_at(count, to, place))
+    }
+
+    fn is_ticketed_down(
+        &self,
+        count: PrinterCount,
+        sender: PrinterNumber,
+        message: MessageNumber,
+    ) -> bool
+        ensures { result ≡ is_ticketed_down count.value (holding_of self.now) sender.value message.0 }
+    {
+        self.message(sender, message).kind == RecordKind::Down
+            && self.is_ticketed(count, sender.value, message)
     }
 
     // Whether a held message of a sender is a down that has a ticket.
-    pub fn is_down_ticketed(&self, count: u32, sender: u32) -> bool
-        requires count_bound { count < 9 }
-        requires sender_bound { sender < 8 }
-        ensures { result ≡ down_ticketed count (holding_of self.now) sender }
+    pub fn is_down_ticketed(&self, count: PrinterCount, sender: PrinterNumber) -> bool
+        ensures { result ≡ down_ticketed count.value (holding_of self.now) sender.value }
     {
-        let row = &self.messages[sender as usize];
-        for i in 0..row.count {
-            if self.is_ticketed_down(count, sender, MessageNumber(row.passed.0 + 1 + i)) {
-                return true;
-            }
-        }
-        false
-    }
-
-    fn is_ticketed_down(&self, count: u32, sender: u32, message: MessageNumber) -> bool
-        requires count_bound { count < 9 }
-        requires sender_bound { sender < 8 }
-        ensures { result ≡ is_ticketed_down count (holding_of self.now) sender message.0 }
-    {
-        self.message(sender, message).kind == RecordKind::Down
-            && self.is_ticketed(count, sender, message)
+        self.numbers(sender).any(|number| self.is_ticketed_down(
+            count,
+            sender,
+            MessageNumber(number),
+        ))
     }
 }

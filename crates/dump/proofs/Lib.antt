@@ -1,3 +1,2 @@
-pub mod Digits
-pub mod Names
+pub mod Pairs
 pub mod ReadBack

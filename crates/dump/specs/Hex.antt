@@ -1,17 +1,15 @@
 -- A block in hex: words of eight digits that may stand apart, and two digits to a byte.
-use Rattle.std.specs.Prelude.{ℕ, ◌+◌, ◌-◌, ◌*◌, ◌%◌, ◌<◌, Bool, cond, ◌&&◌, List, [], ◌∷◌, ◌++◌, length, Some, None, fold, Option, ◌==◌, nat_le, slice_index}
-use Rattle.std.specs.Option.{option_map}
+use Rattle.std.specs.Prelude.{ℕ, ◌+◌, ◌-◌, ◌*◌, ◌%◌, Bool, cond, ◌&&◌, List, [], ◌∷◌, ◌++◌, length, Some, None, fold, Option, ◌==◌}
+use Rattle.std.specs.Int.{is_in_range}
+use Rattle.std.specs.Option.{option_map, option_and_then}
 use Rattle.dump.specs.Trim.{space}
-
-abbrev pub lies : ℕ → ℕ → ℕ → Bool
-lies low high c = nat_le low c && nat_le c high
 
 -- what a digit stands for: the characters 48 to 57 are `0` to `9`, 97 to 102 are `a` to `f`, 65 to 70 are `A` to `F`
 abbrev pub digit_value : ℕ → Option ℕ
 digit_value c =
-    cond (lies 48 57 c) (Some (c - 48))
-    (cond (lies 97 102 c) (Some (c - 97 + 10))
-    (cond (lies 65 70 c) (Some (c - 65 + 10))
+    cond (is_in_range 48 57 c) (Some (c - 48))
+    (cond (is_in_range 97 102 c) (Some (c - 97 + 10))
+    (cond (is_in_range 65 70 c) (Some (c - 65 + 10))
     None))
 
 -- the digits so far are whole words of eight
@@ -24,14 +22,9 @@ abbrev pub with_char : List ℕ → ℕ → Option ℕ → Option (List ℕ)
 with_char ds c (Some d) = Some (ds ++ d ∷ [])
 with_char ds c None = cond (c == space && whole_words ds) (Some ds) None
 
--- what f makes of a value, where there is one
-abbrev pub and_then : {A B : Type 0} → Option A → (A → Option B) → Option B
-and_then None f = None
-and_then (Some x) f = f x
-
 -- one character on; once a character is bad, nothing that follows mends it
 abbrev pub digits_step : Option (List ℕ) → ℕ → Option (List ℕ)
-digits_step digits c = and_then digits (λ ds. with_char ds c (digit_value c))
+digits_step digits c = option_and_then (λ ds. with_char ds c (digit_value c)) digits
 
 -- the values of all digits of a text, or none where a character is bad
 abbrev pub digits_of : List ℕ → Option (List ℕ)
@@ -45,8 +38,4 @@ bytes_of (high ∷ (low ∷ ds)) = option_map (λ bs. (high * 16 + low) ∷ bs) 
 
 -- the bytes that a text has in hex
 abbrev pub hex_block : List ℕ → Option (List ℕ)
-hex_block cs = and_then (digits_of cs) bytes_of
-
--- what the digits of a text are: numbers below sixteen
-abbrev pub Small : List ℕ → Type 0
-Small ds = (k : ℕ) → slice_index ds k < 16
+hex_block cs = option_and_then bytes_of (digits_of cs)

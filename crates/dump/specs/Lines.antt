@@ -1,5 +1,6 @@
 -- What a line of a dump means: a body kind and the bytes of a block, or nothing.
-use Rattle.std.specs.Prelude.{ℕ, cond, List, [], ◌∷◌, Some, None, vec_items, codes, Option, ◌==◌}
+use Rattle.std.specs.Prelude.{ℕ, cond, List, [], ◌∷◌, length, drop, Some, None, vec_items, codes, nat_eq, Option, ◌==◌}
+use Rattle.std.specs.List.{starts_with}
 use Rattle.std.specs.Option.{option_map}
 use Rattle.dump.specs.declared.line.BodyKind.{BodyKind}
 use Rattle.dump.specs.declared.line.BodyKind.TheVariants.{Change, Claim}
@@ -9,9 +10,7 @@ use Rattle.dump.specs.Trim.{space, trimmed}
 
 -- what follows a name, where the text begins with it
 abbrev pub after : List ℕ → List ℕ → Option (List ℕ)
-after [] cs = Some cs
-after (n ∷ ns) [] = None
-after (n ∷ ns) (c ∷ cs) = cond (c == n) (after ns cs) None
+after name cs = cond (starts_with nat_eq cs name) (Some (drop (length name) cs)) None
 
 -- the block that follows the name of a kind: the empty block, or a space and the block in hex
 abbrev pub block_after : List ℕ → Option (List ℕ)

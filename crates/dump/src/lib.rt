@@ -2,6 +2,7 @@
 // the block in hex, in words of eight digits that may stand apart. Blanks at the two ends of the line do not count.
 #![tactic(auto)]
 
+mod digit;
 mod faults;
 mod hex;
 mod line;

@@ -1,7 +1,6 @@
 // One line of a dump: its body kind and its block.
 ghost use Rattle.std.specs.Prelude.{◌≡◌, vec_items};
-ghost use Rattle.std.specs.Option.{option_map};
-ghost use Rattle.dump.specs.Lines.{after, block_after, of_kind, text_means, line_means, contents};
+ghost use Rattle.dump.specs.Lines.{block_after, of_kind, text_means, line_means, contents};
 ghost use Rattle.dump.specs.Reads.{Reads};
 
 use crate::faults::LineFault;
@@ -21,13 +20,6 @@ pub enum BodyKind {
 pub struct Dump {
     pub kind: BodyKind,
     pub block: Vec<u8>,
-}
-
-// What follows `name`, where the text begins with it.
-fn after_name<'a>(text: &'a [u8], name: &[u8]) -> Option<&'a [u8]>
-    ensures { option_map (λ rest. rest.now) result ≡ after name.now text.now }
-{
-    text.strip_prefix(name)
 }
 
 // The block that follows a kind's name: nothing, or a space and then hex.
@@ -51,13 +43,13 @@ fn dump_of(heap: Global, kind: BodyKind, rest: &[u8]) -> Result<Dump, LineFault>
 fn read_text(heap: Global, text: &[u8]) -> Result<Dump, LineFault>
     ensures { Reads (text_means text.now) contents result }
 {
-    if let Some(rest) = after_name(text, b"change") {
-        return dump_of(heap, BodyKind::Change, rest);
+    if let Some(rest) = text.strip_prefix(b"change") {
+        dump_of(heap, BodyKind::Change, rest)
+    } else if let Some(rest) = text.strip_prefix(b"claim") {
+        dump_of(heap, BodyKind::Claim, rest)
+    } else {
+        Err(LineFault::NotHex)
     }
-    if let Some(rest) = after_name(text, b"claim") {
-        return dump_of(heap, BodyKind::Claim, rest);
-    }
-    Err(LineFault::NotHex)
 }
 
 // Reads one line of a dump, without its newline.

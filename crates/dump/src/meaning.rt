@@ -3,18 +3,12 @@ ghost use Rattle.std.specs.Prelude.{◌≡◌, true};
 ghost use Rattle.dump.specs.Examples.{Examples};
 ghost use Rattle.dump.specs.Written.{ReadBack};
 
-fn read_back_stands() -> bool
-    ensures read_back { ReadBack }
-    ensures answer { result ≡ true }
-{
-    true
-}
-
 // Always true: what it says of lines stands in its contract.
+#[tactic(auto, using(crate::proofs::ReadBack::read_back))]
 pub fn meaning_stands() -> bool
     ensures examples { Examples }
     ensures read_back { ReadBack }
     ensures answer { result ≡ true }
 {
-    read_back_stands()
+    true
 }

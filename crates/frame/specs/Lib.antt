@@ -3,3 +3,4 @@ pub mod Contents
 pub mod Ranges
 pub mod Frames
 pub mod Rows
+pub mod Texts

@@ -10,6 +10,7 @@ mod making;
 mod payload;
 mod printer_number;
 mod rows;
+mod showing;
 
 pub use content::Content;
 pub use counters::{MessageNumber, RoleNumber, TicketNumber};

@@ -105,30 +105,17 @@ fn content_from_row<B: Body>(content: Content<B::Row>) -> Option<Content<B>>
     })
 }
 
-fn row_of<B: Body>(frame: Frame<B>) -> FrameRow<B::Row>
-    ensures { result ≡ frame_row B.Body.row frame }
-{
-    FrameRow {
-        sender: frame.sender.value,
-        clock: frame.payload.clock,
-        content: content_to_row(frame.payload.content),
-    }
-}
-
-fn frame_of<B: Body>(given: FrameRow<B::Row>) -> Option<Frame<B>>
-    ensures { result ≡ frame_remade B.remade given }
-{
-    let content = content_from_row::<B>(given.content)?;
-    Frame::new(given.sender, given.clock, content).ok()
-}
-
 impl<B: Body> Frame<B> {
     // The row of the frame, from which the same frame is made again.
     pub fn to_row(self) -> FrameRow<B::Row>
         ensures value { result ≡ frame_row B.Body.row self }
         ensures again { frame_remade B.remade result ≡ Some self }
     {
-        row_of(self)
+        FrameRow {
+            sender: self.sender.value,
+            clock: self.payload.clock,
+            content: content_to_row(self.payload.content),
+        }
     }
 
     // The frame of a row; none of a row that no frame gives.
@@ -136,6 +123,7 @@ impl<B: Body> Frame<B> {
         ensures value { result ≡ frame_remade B.remade given }
         ensures plain { IfSome result (λ f. frame_row B.Body.row f ≡ given) }
     {
-        frame_of::<B>(given)
+        let content = content_from_row::<B>(given.content)?;
+        Frame::new(given.sender, given.clock, content).ok()
     }
 }

@@ -3,7 +3,6 @@ ghost use Rattle.std.specs.Prelude.{IfOk, string_bytes};
 ghost use Rattle.dump.specs.Lines.{line_means};
 ghost use Rattle.frames.specs.Texts.{BlockText, LineText};
 
-use crate::text::frame_text;
 use body::{Body, NumberClaim, TemplateChange};
 use dump::{BodyKind, LineFault, read_line};
 use std::alloc::{AllocError, Global};
@@ -13,7 +12,7 @@ fn block_answer<B: Body>(heap: Global, block: &[u8]) -> Result<String, AllocErro
     ensures { IfOk result (λ s. BlockText B.words B.allows B.count block.now (string_bytes s)) }
 {
     match read_frame::<B>(block) {
-        Ok(frame) => frame_text(heap, frame),
+        Ok(frame) => format!(in heap; "{frame}"),
         Err(fault) => format!(in heap; "{fault}"),
     }
 }

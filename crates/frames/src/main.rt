@@ -2,7 +2,6 @@
 #![tactic(auto)]
 
 mod answer;
-mod text;
 
 use answer::answer;
 use std::io::{BufRead, BufReader, BufWriter, Write};

@@ -1,5 +1,5 @@
 -- The bounds that holding keeps.
-use Rattle.std.proofs.Common.{◌≡◌, ℕ, ◌<◌, ◌≤◌, List, set, sym, ap, ◌∙◌, subst, arith}
+use Rattle.std.proofs.Common.{◌≡◌, ℕ, ◌<◌, ◌≤◌, sym, ap, subst, arith}
 use Rattle.std.proofs.lemmas.Bool.{false≢true}
 use Rattle.std.proofs.lemmas.Bool.Decides.{nat_tests}
 use Rattle.frame.specs.declared.MessageNumber.{MessageNumber}
@@ -10,10 +10,8 @@ use Rattle.backlog.specs.Holdings.{Holding, Row, stored}
 use Rattle.backlog.specs.declared.Held.{Held}
 use Rattle.table.specs.Printers.{Printer}
 use Rattle.table.specs.declared.Duty.{Duty}
-use Rattle.table.specs.Records.{shelf_place}
 use Rattle.table.proofs.Sound.{Sound}
 use Rattle.printer.specs.Making.{undelivered, held_own}
-use Rattle.printer.specs.Posts.{posted_at}
 use Rattle.printer.specs.Transmitting.{issued, repaid}
 
 -- one more held, and no more passed on
@@ -34,19 +32,6 @@ held_own_sound kind me p few s =
       own = grind (arith, nat_tests);
       owes = λ _. grind (arith, nat_tests);
     }
-
--- posting a frame delivers nothing
-pub undelivered_still : (m me : ℕ) (q p : Printer) (k : ℕ) → m ≡ me → q ≡ posted_at k p → undelivered me p < 7 → undelivered m q < 7
-undelivered_still m me q p k e f l = subst (λ (n : ℕ). n < 7) (sym (λ i. undelivered (e i) (f i))) l
-
-pub tickets_still : (m me : ℕ) (q p : Printer) (k : ℕ) → m ≡ me → q ≡ posted_at k p → (p.holding.tickets me).count < 16 →
-    (q.holding.tickets m).count < 16
-tickets_still m me q p k e f l = subst (λ (n : ℕ). n < 16) (sym (λ i. ((f i).holding.tickets (e i)).count)) l
-
--- a body laid in its place
-pub laid : {R : Type 0} (after before : List R) (x y : ℕ) (k l : MessageNumber) (a b : R) → x ≡ y → k ≡ l → a ≡ b →
-    after ≡ set before (shelf_place x k.0) a → after ≡ set before (shelf_place y l.0) b
-laid after before x y k l a b e f h r = r ∙ (λ i. set before (shelf_place (e i) (f i).0) (h i))
 
 -- a printer with another holding and another part
 abbrev pub changed_to : Printer → Duty → Holding → Printer

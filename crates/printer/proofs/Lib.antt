@@ -1,4 +1,3 @@
 pub mod PostLaws
 pub mod Holds
 pub mod Receipts
-pub mod Steps

@@ -3,7 +3,6 @@ use Rattle.std.proofs.Common.{◌≡◌, ℕ, Bool, true, false, cond, is_ok, So
 use Rattle.std.proofs.lemmas.Bool.{cond-false}
 use Rattle.frame.specs.declared.Content.{Content}
 use Rattle.frame.specs.declared.Frame.{Frame}
-use Rattle.frame.specs.declared.TicketNumber.{TicketNumber}
 use Rattle.frame.proofs.Parts.{frame_of_self}
 use Rattle.transport.specs.Nets.{Net, accepts, post_answer, after_post}
 use Rattle.transport.specs.Stored.{or_idle}
@@ -13,6 +12,7 @@ use Rattle.table.specs.Printers.{Printer}
 use Rattle.refusals.specs.Faults.{carried_up}
 use Rattle.printer.specs.Answers.{Answer, passed_up, unless}
 use Rattle.printer.specs.Posts.{frame_from, own_frame, posting_answer}
+use Rattle.refusals.specs.declared.PrinterFault.{PrinterFault}
 use Rattle.refusals.specs.declared.PrinterRefusal.{PrinterRefusal}
 
 -- a frame is made of its parts
@@ -36,16 +36,12 @@ module _ {B : Type 0} (t x : Net B) (f : Frame B) where
       (Ok tt ≡ posting_answer t f.sender.value) × (x ≡ after_post t (frame_from f.sender.value f.payload.clock f.payload.content))
   accepted_up a h = (ap passed_up a, h ∙ ap (after_post t) (frame_from_self f))
 
--- past the printer's own refusals only the transport decides
-pub unless_none : (me : ℕ) (o : Option PrinterRefusal) (a : Answer) → Ok tt ≡ unless me o (Ok tt) → a ≡ unless me o a
-unless_none me None a e = refl
-unless_none me (Some r) a e = absurd (let z : ◌≡◌ {A = ℕ} 0 1 = cc in omega arith)
+-- a printer's own refusal comes before what the transport answers
+pub refused_unless : (me : ℕ) (o : Option PrinterRefusal) (a : Answer) (f : PrinterFault) → Err f ≡ unless me o (Ok tt) → Err f ≡ unless me o a
+refused_unless me None a f e = absurd (let z : ◌≡◌ {A = ℕ} 0 1 = cc in omega arith)
+refused_unless me (Some r) a f e = e
 
--- a payload of these parts, posted if so told
-pub posted_as : {B : Type 0} (x t : Net B) (b : Bool) (me : ℕ) (k l : TicketNumber) (c d : Content B) → k ≡ l → c ≡ d →
-    x ≡ cond b (after_post t (frame_from me k c)) t → x ≡ cond b (after_post t (frame_from me l d)) t
-posted_as x t b me k l c d e f h = h ∙ (λ i. cond b (after_post t (frame_from me (e i) (f i))) t)
-
-pub posted_own : {B : Type 0} (x t : Net B) (b : Bool) (me : ℕ) (p : Printer) (k : TicketNumber) (c d : Content B) →
-    k ≡ record { 0 = p.clocks.own } → c ≡ d → x ≡ cond b (after_post t (frame_from me k c)) t → x ≡ cond b (after_post t (own_frame me p d)) t
-posted_own x t b me p k c d e f h = posted_as x t b me k (record { 0 = p.clocks.own }) c d e f h
+-- another name of the content, posted if so told
+pub posted_same : {B : Type 0} (x t : Net B) (b : Bool) (me : ℕ) (p : Printer) (c d : Content B) → c ≡ d →
+    x ≡ cond b (after_post t (own_frame me p c)) t → x ≡ cond b (after_post t (own_frame me p d)) t
+posted_same x t b me p c d e h = h ∙ ap (λ c. cond b (after_post t (own_frame me p c)) t) e

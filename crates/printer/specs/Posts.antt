@@ -1,18 +1,13 @@
 -- What a printer posts.
-use Rattle.std.specs.Prelude.{◌≡◌, ℕ}
+use Rattle.std.specs.Prelude.{ℕ}
 use Rattle.frame.specs.Frames.{frame_of}
 use Rattle.frame.specs.declared.Content.{Content}
 use Rattle.frame.specs.declared.Frame.{Frame}
-use Rattle.frame.specs.declared.Payload.{Payload}
 use Rattle.frame.specs.declared.TicketNumber.{TicketNumber}
 use Rattle.transport.specs.Nets.{Net, post_answer}
 use Rattle.transport.specs.Stored.{or_idle}
 use Rattle.table.specs.Printers.{Printer}
 use Rattle.printer.specs.Answers.{Answer, passed_up}
-
--- the parts of a payload
-abbrev pub Holds : {B : Type 0} → Payload B → TicketNumber → Content B → Type 0
-Holds p clock content = (p.clock ≡ clock) × (p.content ≡ content)
 
 -- the frame of these parts; what printers post is always in its ranges
 abbrev pub frame_from : {B : Type 0} → ℕ → TicketNumber → Content B → Frame B

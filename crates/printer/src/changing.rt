@@ -1,51 +1,47 @@
 // Changing the sequencer.
-ghost use Rattle.std.specs.Prelude.{◌≡◌, ◌<◌, is_ok, if◌then◌else◌};
-ghost use Rattle.printer.specs.Making.{change_refusal, change_answer, sequenced_by};
+ghost use Rattle.std.specs.Prelude.{◌≡◌, is_ok, if◌then◌else◌};
+ghost use Rattle.printer.specs.Making.{change_answer, sequenced_by};
 ghost use Rattle.printer.specs.Views.{number_of, kept_by};
 
 use crate::making::{has_role, is_switching};
 use crate::printer::Printer;
+use crate::refusing::refused;
+use frame::PrinterNumber;
 use refusals::{PrinterFault, PrinterRefusal};
 use roles::RecordKind;
 
 impl Printer {
-    // Why this sequencer cannot be taken, if so.
-    fn change_refusal(&self, sequencer: u32) -> Option<PrinterRefusal>
-        ensures { result ≡ change_refusal (number_of self.now) (kept_by self.now) sequencer }
+    // Whether this sequencer can be taken.
+    fn may_change(&self, sequencer: PrinterNumber) -> Result<(), PrinterFault>
+        ensures { result ≡ change_answer (number_of self.now) (kept_by self.now) sequencer.value }
     {
         let table = &self.table;
         if is_switching(table.duty.state) {
-            return Some(PrinterRefusal::Switching);
+            return Err(refused(table, PrinterRefusal::Switching));
         }
         if has_role(RecordKind::Up, table.duty.state) {
-            return Some(PrinterRefusal::RoleHeld);
+            return Err(refused(table, PrinterRefusal::RoleHeld));
         }
         if table.duty.owes {
-            return Some(PrinterRefusal::ReassignmentOwed);
+            return Err(refused(table, PrinterRefusal::ReassignmentOwed));
         }
-        if table.backlog.messages[table.me.value as usize].count > 0 {
-            return Some(PrinterRefusal::Undelivered);
+        if table.backlog.messages_held(table.me) > 0 {
+            return Err(refused(table, PrinterRefusal::Undelivered));
         }
-        if !table.configuration.is_active(sequencer) {
-            return Some(PrinterRefusal::NotActive);
+        if !table.configuration.is_active(sequencer.value) {
+            return Err(refused(table, PrinterRefusal::NotActive));
         }
-        None
+        Ok(())
     }
 
     // Takes another printer as its sequencer.
-    pub fn change(&mut self, sequencer: u32) -> Result<(), PrinterFault>
-        requires { sequencer < 8 }
-        ensures answer { result ≡ change_answer (number_of self.old) (kept_by self.old) sequencer }
-        ensures table { kept_by self.new ≡ (if is_ok result then sequenced_by (kept_by self.old) sequencer else kept_by self.old) }
+    pub fn change(&mut self, sequencer: PrinterNumber) -> Result<(), PrinterFault>
+        ensures answer { result ≡ change_answer (number_of self.old) (kept_by self.old) sequencer.value }
+        ensures table { kept_by self.new ≡ (if is_ok result then sequenced_by (kept_by self.old) sequencer.value else kept_by self.old) }
         ensures number { number_of self.new ≡ number_of self.old }
     {
-        if let Some(refusal) = self.change_refusal(sequencer) {
-            return Err(PrinterFault::Printer {
-                refusal,
-                printer: self.table.me.value,
-            });
-        }
-        self.table.duty.sequencer = self.table.configuration.pair_of(sequencer);
+        self.may_change(sequencer)?;
+        self.table.duty.sequencer = self.table.configuration.pair_of(sequencer.value);
         Ok(())
     }
 }

@@ -4,7 +4,6 @@
 mod changing;
 mod making;
 mod opening;
-mod payloads;
 mod posting;
 mod printer;
 mod refusing;
@@ -16,5 +15,5 @@ pub use printer::Printer;
 pub use refusals::{PrinterFault, PrinterRefusal};
 
 // What the steps of a printer speak of, so that a program needs only this crate.
-pub use roles::{Configuration, Rank, RecordKind, Seat};
+pub use roles::{Configuration, Delays, Rank, RecordKind, Seat};
 pub use table::{Due, PrinterState, PrinterTable, Record};

@@ -1,5 +1,6 @@
 // Making messages.
 ghost use Rattle.std.specs.Prelude.{◌≡◌, ◌<◌, ◌≤◌, true, is_ok, if◌then◌else◌, Ok, slice_set};
+ghost use Rattle.frame.specs.Ranges.{assigned_ok, content_ok};
 ghost use Rattle.transport.specs.Nets.{after_post};
 ghost use Rattle.table.specs.Printers.{printer_of};
 ghost use Rattle.table.specs.Records.{shelf_place};
@@ -9,13 +10,13 @@ ghost use Rattle.printer.specs.Making.{is_switching, has_role, minds_debt, undel
 ghost use Rattle.printer.specs.Posts.{frame_from, own_frame, posting_answer};
 ghost use Rattle.printer.specs.Views.{number_of, kept_by};
 
-use crate::payloads::{data_payload, down_payload, up_payload};
 use crate::posting::post;
 use crate::printer::Printer;
+use crate::refusing::refused;
 use crate::shelving::lay;
 use backlog::Held;
 use body::Body;
-use frame::{MessageNumber, Payload};
+use frame::{Content, MessageNumber, RoleNumber};
 use refusals::{PrinterFault, PrinterRefusal};
 use roles::RecordKind;
 use table::{PrinterState, PrinterTable};
@@ -40,44 +41,35 @@ pub(crate) fn has_role(kind: RecordKind, state: PrinterState) -> bool
     }
 }
 
-// The number of the next own message.
-fn next_number(table: &PrinterTable) -> MessageNumber
-    ensures { result ≡ next_number table.now.me.value (printer_of table.now) }
+// The number of the next own message, and the sequencer that it is assigned to.
+fn next_message(table: &PrinterTable) -> (MessageNumber, (u32, RoleNumber))
+    ensures number { result.0 ≡ next_number table.now.me.value (printer_of table.now) }
+    ensures assigned { result.1 ≡ table.now.duty.sequencer }
+    ensures in_range { assigned_ok result.0 result.1.0 result.1.1 ≡ true }
 {
-    let row = &table.backlog.messages[table.me.value as usize];
-    MessageNumber(row.passed.0 + row.count + 1)
+    let row = &table.backlog.messages[table.me.index()];
+    let number = MessageNumber(row.passed + row.count + 1);
+    (number, table.duty.sequencer)
 }
 
-// Why no message of this kind can be made, if so.
-fn make_refusal(table: &PrinterTable, kind: RecordKind) -> Option<PrinterRefusal>
-    ensures { result ≡ make_refusal kind table.now.me.value (printer_of table.now) }
-{
-    if is_switching(table.duty.state) {
-        return Some(PrinterRefusal::Switching);
-    }
-    if has_role(kind, table.duty.state) {
-        return Some(PrinterRefusal::RoleHeld);
-    }
-    if kind != RecordKind::Down && table.duty.owes {
-        return Some(PrinterRefusal::ReassignmentOwed);
-    }
-    if table.backlog.messages[table.me.value as usize].count >= 7 {
-        return Some(PrinterRefusal::SevenUndelivered);
-    }
-    None
-}
-
+// Whether a message of this kind can be made.
 fn may_make(table: &PrinterTable, kind: RecordKind) -> Result<(), PrinterFault>
     ensures answer { result ≡ unless table.now.me.value (make_refusal kind table.now.me.value (printer_of table.now)) (Ok tt) }
     ensures few { is_ok result ≡ true → undelivered table.now.me.value (printer_of table.now) < 7 }
 {
-    match make_refusal(table, kind) {
-        Some(refusal) => Err(PrinterFault::Printer {
-            refusal,
-            printer: table.me.value,
-        }),
-        None => Ok(()),
+    if is_switching(table.duty.state) {
+        return Err(refused(table, PrinterRefusal::Switching));
     }
+    if has_role(kind, table.duty.state) {
+        return Err(refused(table, PrinterRefusal::RoleHeld));
+    }
+    if kind != RecordKind::Down && table.duty.owes {
+        return Err(refused(table, PrinterRefusal::ReassignmentOwed));
+    }
+    if table.backlog.messages_held(table.me) >= 7 {
+        return Err(refused(table, PrinterRefusal::SevenUndelivered));
+    }
+    Ok(())
 }
 
 // The state of a printer that has made a message of this kind.
@@ -97,29 +89,28 @@ fn hold_own(table: &mut PrinterTable, kind: RecordKind)
     ensures table { printer_of table.new ≡ held_own kind table.old.me.value (printer_of table.old) }
     ensures me { table.new.me ≡ table.old.me }
 {
-    let number = next_number(table);
-    let assigned = table.duty.sequencer;
+    let (number, assigned) = next_message(table);
     table.duty.state = state_made(kind, table.duty.state);
     table
         .backlog
-        .hold_message(table.me.value, number, Held { kind, assigned });
+        .hold_message(table.me, number, Held { kind, assigned });
 }
 
-// Posts a message of the printer's own and holds it.
+// Posts a message of the printer's own and holds it, if one of its kind can be made.
 fn make<T: Transport>(
     table: &mut PrinterTable,
     kind: RecordKind,
-    payload: Payload<T::Body>,
+    content: Content<T::Body>,
     transport: &mut T,
 ) -> Result<(), PrinterFault>
-    requires own_clock { payload.clock ≡ table.old.clocks.own }
-    requires few { undelivered table.old.me.value (printer_of table.old) < 7 }
-    ensures answer { result ≡ posting_answer (T.meaning transport.old) table.old.me.value }
+    requires { content_ok table.old.clocks.own.0 content ≡ true }
+    ensures answer { result ≡ make_answer kind table.old.me.value (printer_of table.old) (T.meaning transport.old) }
     ensures table { printer_of table.new ≡ (if is_ok result then made kind table.old.me.value (printer_of table.old) else printer_of table.old) }
     ensures me { table.new.me ≡ table.old.me }
-    ensures net { T.meaning transport.new ≡ (if is_ok result then after_post (T.meaning transport.old) (frame_from table.old.me.value payload.clock payload.content) else T.meaning transport.old) }
+    ensures net { T.meaning transport.new ≡ (if is_ok result then after_post (T.meaning transport.old) (own_frame table.old.me.value (printer_of table.old) content) else T.meaning transport.old) }
 {
-    post(table, payload, transport)?;
+    may_make(table, kind)?;
+    post(table, table.clocks.own, content, transport)?;
     hold_own(table, kind);
     Ok(())
 }
@@ -138,12 +129,15 @@ impl Printer {
         ensures shelf { shelf.new ≡ (if is_ok result then slice_set shelf.old (shelf_place (number_of self.old) (next_number (number_of self.old) (kept_by self.old)).0) (T.Body.Body.row body) else shelf.old) }
         ensures net { T.meaning transport.new ≡ (if is_ok result then after_post (T.meaning transport.old) (own_frame (number_of self.old) (kept_by self.old) (data_content (number_of self.old) (kept_by self.old) body)) else T.meaning transport.old) }
     {
-        may_make(&self.table, RecordKind::Data)?;
-        let number = next_number(&self.table);
-        let (sequencer, role) = self.table.duty.sequencer;
-        let payload = data_payload(self.table.clocks.own, number, sequencer, role, body);
-        make(&mut self.table, RecordKind::Data, payload, transport)?;
-        lay(shelf, self.table.me.value, number, body.to_row());
+        let (number, (sequencer, role)) = next_message(&self.table);
+        let content = Content::Data {
+            number,
+            sequencer,
+            role,
+            body,
+        };
+        make(&mut self.table, RecordKind::Data, content, transport)?;
+        lay(shelf, self.table.me, number, body.to_row());
         Ok(())
     }
 
@@ -154,11 +148,13 @@ impl Printer {
         ensures number { number_of self.new ≡ number_of self.old }
         ensures net { T.meaning transport.new ≡ (if is_ok result then after_post (T.meaning transport.old) (own_frame (number_of self.old) (kept_by self.old) (up_content (number_of self.old) (kept_by self.old))) else T.meaning transport.old) }
     {
-        may_make(&self.table, RecordKind::Up)?;
-        let number = next_number(&self.table);
-        let (sequencer, role) = self.table.duty.sequencer;
-        let payload = up_payload(self.table.clocks.own, number, sequencer, role);
-        make(&mut self.table, RecordKind::Up, payload, transport)
+        let (number, (sequencer, role)) = next_message(&self.table);
+        let content = Content::Up {
+            number,
+            sequencer,
+            role,
+        };
+        make(&mut self.table, RecordKind::Up, content, transport)
     }
 
     // Asks to become passive.
@@ -168,10 +164,12 @@ impl Printer {
         ensures number { number_of self.new ≡ number_of self.old }
         ensures net { T.meaning transport.new ≡ (if is_ok result then after_post (T.meaning transport.old) (own_frame (number_of self.old) (kept_by self.old) (down_content (number_of self.old) (kept_by self.old))) else T.meaning transport.old) }
     {
-        may_make(&self.table, RecordKind::Down)?;
-        let number = next_number(&self.table);
-        let (sequencer, role) = self.table.duty.sequencer;
-        let payload = down_payload(self.table.clocks.own, number, sequencer, role);
-        make(&mut self.table, RecordKind::Down, payload, transport)
+        let (number, (sequencer, role)) = next_message(&self.table);
+        let content = Content::Down {
+            number,
+            sequencer,
+            role,
+        };
+        make(&mut self.table, RecordKind::Down, content, transport)
     }
 }

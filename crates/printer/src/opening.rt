@@ -9,6 +9,7 @@ ghost use Rattle.printer.specs.Views.{number_of, kept_by, desk_of};
 
 use crate::printer::Printer;
 use frame::{PrinterNumber, TicketNumber};
+use roles::Delays;
 use table::{PrinterTable, Record};
 
 impl Printer {
@@ -26,18 +27,16 @@ impl Printer {
     // list has room for that; there is a delay for each printer of the hall.
     pub fn leave<R: Copy>(
         &mut self,
-        leaver: u32,
-        delays: &[u16],
+        leaver: PrinterNumber,
+        delays: &Delays,
         list: &mut [Record<R>],
         shelf: &[R],
     )
-        requires leaver_bound { leaver < 8 }
-        requires delays_len_bound { length delays.now < 9 }
         requires list_len_bound { length list.old ≤ 65536 }
-        requires room { (kept_by self.old).length + tickets_held (length delays.now) (kept_by self.old).holding < length list.old }
-        ensures after { desk_of self.new list.new shelf.now ≡ left_by (length delays.now) (delay_in delays.now) (number_of self.old) (desk_of self.old list.old shelf.now) leaver }
+        requires room { (kept_by self.old).length + tickets_held (length delays.now.row.now) (kept_by self.old).holding < length list.old }
+        ensures after { desk_of self.new list.new shelf.now ≡ left_by (length delays.now.row.now) (delay_in delays.now.row.now) (number_of self.old) (desk_of self.old list.old shelf.now) leaver.value }
         ensures number { number_of self.new ≡ number_of self.old }
-        ensures given { Given (length delays.now) (desk_of self.old list.old shelf.now) → Given (length delays.now) (desk_of self.new list.new shelf.now) }
+        ensures given { Given (length delays.now.row.now) (desk_of self.old list.old shelf.now) → Given (length delays.now.row.now) (desk_of self.new list.new shelf.now) }
     {
         self.table.leave(delays, leaver, list, shelf);
     }

@@ -7,17 +7,18 @@ ghost use Rattle.table.specs.Dues.{due, FitsTicket};
 ghost use Rattle.table.specs.Printers.{printer_of};
 ghost use Rattle.printer.specs.Laws.{Lawful};
 ghost use Rattle.printer.specs.Posts.{own_frame, posting_answer, posted_at};
-ghost use Rattle.printer.specs.Transmitting.{repaid, issued, due_frame, after_due, ticket_answer, transmit_answer, transmitted, after_transmit};
+ghost use Rattle.printer.specs.Transmitting.{reassign_content, repaid, issued, due_frame, after_due, ticket_answer, transmit_answer, transmitted, after_transmit};
 ghost use Rattle.printer.specs.Views.{number_of, kept_by, desk_of};
 ghost use Rattle.table.specs.declared.Due.TheVariants.{Reassignment, Ticket, Clock};
 
-use crate::payloads::{clock_payload, reassign_payload, ticket_payload};
 use crate::posting::post;
 use crate::printer::Printer;
+use crate::refusing::refused;
 use backlog::Stub;
 use body::Body;
-use frame::{MessageNumber, TicketNumber};
+use frame::{Content, MessageNumber, TicketNumber};
 use refusals::{PrinterFault, PrinterRefusal};
+use roles::Delays;
 use table::{Due, Heed, PrinterTable, Record};
 use transport::Transport;
 
@@ -26,10 +27,22 @@ fn settle_debt(table: &mut PrinterTable)
     ensures table { printer_of table.new ≡ repaid table.old.me.value (printer_of table.old) }
     ensures me { table.new.me ≡ table.old.me }
 {
-    table
-        .backlog
-        .reassign_all(table.me.value, table.duty.sequencer);
+    table.backlog.reassign_all(table.me, table.duty.sequencer);
     table.duty.owes = false;
+}
+
+// The reassignment of all own messages that are not delivered.
+fn reassignment<B: Copy>(table: &PrinterTable) -> Content<B>
+    ensures { result ≡ reassign_content table.now.me.value (printer_of table.now) }
+{
+    let row = &table.backlog.messages[table.me.index()];
+    let (sequencer, role) = table.duty.sequencer;
+    Content::Reassign {
+        last: MessageNumber(row.passed),
+        sent: MessageNumber(row.passed + row.count),
+        sequencer,
+        role,
+    }
 }
 
 // Posts the reassignment that is owed.
@@ -40,11 +53,7 @@ fn repay<T: Transport>(table: &mut PrinterTable, transport: &mut T) -> Result<()
     ensures me { table.new.me ≡ table.old.me }
     ensures net { T.meaning transport.new ≡ (if is_ok result then after_post (T.meaning transport.old) (due_frame table.old.me.value (printer_of table.old) Reassignment) else T.meaning transport.old) }
 {
-    let last = table.backlog.messages[table.me.value as usize].passed;
-    let sent = MessageNumber(last.0 + table.backlog.messages[table.me.value as usize].count);
-    let (sequencer, role) = table.duty.sequencer;
-    let payload = reassign_payload(table.clocks.own, last, sent, sequencer, role);
-    post(table, payload, transport)?;
+    post(table, table.clocks.own, reassignment(table), transport)?;
     settle_debt(table);
     Ok(())
 }
@@ -58,7 +67,7 @@ fn hold_ticket(table: &mut PrinterTable, sender: u32, message: MessageNumber)
 {
     let number = table.clocks.own;
     table.backlog.hold_ticket(
-        table.me.value,
+        table.me,
         Stub {
             number,
             sender,
@@ -68,23 +77,30 @@ fn hold_ticket(table: &mut PrinterTable, sender: u32, message: MessageNumber)
     table.duty.turn = sender + 1;
 }
 
-// Posts a ticket for a message, under a clock that is one higher.
+// Posts a ticket for a message, under a clock that is one higher, if there is one.
 fn issue<T: Transport>(
     table: &mut PrinterTable,
     sender: u32,
     message: MessageNumber,
     transport: &mut T,
 ) -> Result<(), PrinterFault>
-    requires fits_ticket { FitsTicket table.old.me.value (printer_of table.old) sender message }
-    requires clock_bound { table.old.clocks.own.0 < 4294967295 }
-    ensures answer { result ≡ posting_answer (T.meaning transport.old) table.old.me.value }
+    requires { FitsTicket table.old.me.value (printer_of table.old) sender message }
+    ensures answer { result ≡ ticket_answer table.old.me.value (printer_of table.old) (T.meaning transport.old) }
     ensures table { printer_of table.new ≡ (if is_ok result then issued table.old.me.value sender message (posted_at (table.old.clocks.own.0 + 1) (printer_of table.old)) else printer_of table.old) }
     ensures me { table.new.me ≡ table.old.me }
     ensures net { T.meaning transport.new ≡ (if is_ok result then after_post (T.meaning transport.old) (due_frame table.old.me.value (printer_of table.old) (Ticket sender message)) else T.meaning transport.old) }
 {
-    let clock = TicketNumber(table.clocks.own.0 + 1);
-    let payload = ticket_payload(clock, sender, message);
-    post(table, payload, transport)?;
+    let clock = table
+        .clocks
+        .own
+        .0
+        .checked_add(1)
+        .ok_or(refused(table, PrinterRefusal::ClockSpent))?;
+    let content = Content::Ticket {
+        of: sender,
+        number: message,
+    };
+    post(table, TicketNumber(clock), content, transport)?;
     hold_ticket(table, sender, message);
     Ok(())
 }
@@ -96,90 +112,35 @@ fn tell_clock<T: Transport>(table: &mut PrinterTable, transport: &mut T) -> Resu
     ensures me { table.new.me ≡ table.old.me }
     ensures net { T.meaning transport.new ≡ (if is_ok result then after_post (T.meaning transport.old) (due_frame table.old.me.value (printer_of table.old) Clock) else T.meaning transport.old) }
 {
-    let payload = clock_payload(table.clocks.own);
-    post(table, payload, transport)
-}
-
-// Posts a ticket, and passes on what can be passed on then.
-fn ticket_and_pass<T: Transport>(
-    table: &mut PrinterTable,
-    sender: u32,
-    message: MessageNumber,
-    delays: &[u16],
-    list: &mut [Record<<T::Body as Body>::Row>],
-    shelf: &[<T::Body as Body>::Row],
-    transport: &mut T,
-) -> Result<(), PrinterFault>
-    requires fits_ticket { FitsTicket table.old.me.value (printer_of table.old) sender message }
-    requires delays_len_bound { length delays.now < 9 }
-    requires list_len_bound { length list.old ≤ 65536 }
-    ensures answer { result ≡ ticket_answer table.old.me.value (printer_of table.old) (T.meaning transport.old) }
-    ensures after { desk (printer_of table.new) list.new shelf.now ≡ (if is_ok result then after_due (length delays.now) (delay_in delays.now) table.old.me.value (desk (printer_of table.old) list.old shelf.now) (Ticket sender message) else desk (printer_of table.old) list.old shelf.now) }
-    ensures me { table.new.me ≡ table.old.me }
-    ensures net { T.meaning transport.new ≡ (if is_ok result then after_post (T.meaning transport.old) (due_frame table.old.me.value (printer_of table.old) (Ticket sender message)) else T.meaning transport.old) }
-{
-    if table.clocks.own.0 >= u32::MAX {
-        return Err(PrinterFault::Printer {
-            refusal: PrinterRefusal::ClockSpent,
-            printer: table.me.value,
-        });
-    }
-    issue(table, sender, message, transport)?;
-    table.pass_on(Heed::Clocks, delays, list, shelf);
-    Ok(())
+    post(table, table.clocks.own, Content::Clock, transport)
 }
 
 impl Printer {
     // Posts the first frame that is due. There is a delay for each printer of the hall.
     pub fn transmit<T: Transport>(
         &mut self,
-        delays: &[u16],
+        delays: &Delays,
         list: &mut [Record<<T::Body as Body>::Row>],
         shelf: &[<T::Body as Body>::Row],
         transport: &mut T,
     ) -> Result<(), PrinterFault>
-        requires delays_len_bound { length delays.now < 9 }
-        requires list_len_bound { length list.old ≤ 65536 }
-        ensures answer { result ≡ transmit_answer (length delays.now) (number_of self.old) (kept_by self.old) (length list.old) (T.meaning transport.old) }
-        ensures after { desk_of self.new list.new shelf.now ≡ (if is_ok result then transmitted (length delays.now) (delay_in delays.now) (number_of self.old) (desk_of self.old list.old shelf.now) (due (length delays.now) (number_of self.old) (kept_by self.old)) else desk_of self.old list.old shelf.now) }
+        requires { length list.old ≤ 65536 }
+        ensures answer { result ≡ transmit_answer (length delays.now.row.now) (number_of self.old) (kept_by self.old) (length list.old) (T.meaning transport.old) }
+        ensures after { desk_of self.new list.new shelf.now ≡ (if is_ok result then transmitted (length delays.now.row.now) (delay_in delays.now.row.now) (number_of self.old) (desk_of self.old list.old shelf.now) (due (length delays.now.row.now) (number_of self.old) (kept_by self.old)) else desk_of self.old list.old shelf.now) }
         ensures number { number_of self.new ≡ number_of self.old }
-        ensures net { T.meaning transport.new ≡ (if is_ok result then after_transmit (number_of self.old) (kept_by self.old) (T.meaning transport.old) (due (length delays.now) (number_of self.old) (kept_by self.old)) else T.meaning transport.old) }
-        ensures lawful { Lawful (length delays.now) (desk_of self.old list.old shelf.now) (desk_of self.new list.new shelf.now) }
-    {
-        self.transmit_first(delays, list, shelf, transport)
-    }
-
-    // Posts the first frame that is due.
-    fn transmit_first<T: Transport>(
-        &mut self,
-        delays: &[u16],
-        list: &mut [Record<<T::Body as Body>::Row>],
-        shelf: &[<T::Body as Body>::Row],
-        transport: &mut T,
-    ) -> Result<(), PrinterFault>
-        requires delays_len_bound { length delays.now < 9 }
-        requires list_len_bound { length list.old ≤ 65536 }
-        ensures answer { result ≡ transmit_answer (length delays.now) (number_of self.old) (kept_by self.old) (length list.old) (T.meaning transport.old) }
-        ensures after { desk_of self.new list.new shelf.now ≡ (if is_ok result then transmitted (length delays.now) (delay_in delays.now) (number_of self.old) (desk_of self.old list.old shelf.now) (due (length delays.now) (number_of self.old) (kept_by self.old)) else desk_of self.old list.old shelf.now) }
-        ensures number { number_of self.new ≡ number_of self.old }
-        ensures net { T.meaning transport.new ≡ (if is_ok result then after_transmit (number_of self.old) (kept_by self.old) (T.meaning transport.old) (due (length delays.now) (number_of self.old) (kept_by self.old)) else T.meaning transport.old) }
+        ensures net { T.meaning transport.new ≡ (if is_ok result then after_transmit (number_of self.old) (kept_by self.old) (T.meaning transport.old) (due (length delays.now.row.now) (number_of self.old) (kept_by self.old)) else T.meaning transport.old) }
+        ensures lawful { Lawful (length delays.now.row.now) (desk_of self.old list.old shelf.now) (desk_of self.new list.new shelf.now) }
     {
         if self.table.length as usize >= list.len() {
-            return Err(self.refused(PrinterRefusal::ListFull));
+            return Err(refused(&self.table, PrinterRefusal::ListFull));
         }
-        match self.table.due(delays.len() as u32) {
-            None => Err(self.refused(PrinterRefusal::NothingDue)),
+        match self.table.due(delays.count()) {
+            None => Err(refused(&self.table, PrinterRefusal::NothingDue)),
             Some(Due::Reassignment) => repay(&mut self.table, transport),
             Some(Due::Ticket { sender, message }) => {
-                ticket_and_pass(
-                    &mut self.table,
-                    sender,
-                    message,
-                    delays,
-                    list,
-                    shelf,
-                    transport,
-                )
+                issue(&mut self.table, sender, message, transport)?;
+                self.table.pass_on(Heed::Clocks, delays, list, shelf);
+                Ok(())
             }
             Some(Due::Clock) => tell_clock(&mut self.table, transport),
         }

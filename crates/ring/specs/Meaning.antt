@@ -7,4 +7,4 @@ use Rattle.ring.specs.declared.ring.RingTransport.{RingTransport}
 
 -- remade gives the body of a row
 abbrev pub ring_meaning : {B R : Type 0} {g : Ghosts B R} → (R → Option B) → RingTransport B R g → Net B
-ring_meaning remade t = ring_net remade t.size t.limit t.flags t.starts t.helds (vec_items t.cells)
+ring_meaning remade t = ring_net remade t.members t.limit t.circles (vec_items t.cells)

@@ -37,11 +37,12 @@ impl<B: Body> Transport for RingTransport<B> {
         self.drop_oldest(sender, receiver);
     }
 
+    // A closed printer never opens again, so that what waits for it need not be cleared.
     fn close(&mut self, printer: u32) {
-        self.shut(printer);
+        self.members.shut(printer);
     }
 
-    // Here the answer is exact.
+    // Exactly the number of posts that the sender could make in a row.
     fn spare(&mut self, sender: u32) -> usize
         ensures bound { result ≤ most_posts (ring_meaning B.remade self.old) sender }
         ensures same { ring_meaning B.remade self.new ≡ ring_meaning B.remade self.old }
@@ -51,10 +52,10 @@ impl<B: Body> Transport for RingTransport<B> {
     }
 
     fn printers(&mut self) -> u32 {
-        self.size
+        self.members.size()
     }
 
     fn is_open(&mut self, printer: u32) -> bool {
-        printer < self.size && self.flags[printer as usize]
+        self.members.is_open(printer)
     }
 }

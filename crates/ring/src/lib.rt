@@ -2,7 +2,7 @@
 #![tactic(auto)]
 
 mod carrying;
-mod closing;
+mod circle;
 mod making;
 mod places;
 mod posting;

@@ -3,10 +3,11 @@ ghost use Rattle.std.specs.Prelude.{◌≡◌, ◌*◌, ◌/◌, ◌≤◌, Ok, 
 ghost use Rattle.transport.specs.Nets.{fresh, making_answer};
 ghost use Rattle.ring.specs.Meaning.{ring_meaning};
 
+use crate::circle::Circle;
 use crate::ring::RingTransport;
 use body::Body;
 use frame::FrameRow;
-use transport::{TransportFault, TransportRefusal};
+use transport::{Members, PairTable, TransportFault, fair_limit};
 
 impl<B: Body> RingTransport<B> {
     // An empty place for a transport, without printers.
@@ -15,24 +16,11 @@ impl<B: Body> RingTransport<B> {
         ensures meaning { ring_meaning B.remade result ≡ fresh 0 1 }
     {
         RingTransport {
-            size: 0,
+            members: Members::all_open(0),
             limit: 1,
-            flags: [false; 8],
-            starts: [0; 64],
-            helds: [0; 64],
+            circles: PairTable::filled(Circle { start: 0, held: 0 }),
             cells,
         }
-    }
-
-    // How many frames each ordered pair of n printers may hold: the cells in equal shares.
-    fn limit_for(&self, n: u32) -> usize
-        requires at_least_two { 2 ≤ n }
-        requires at_most_eight { n ≤ 8 }
-        ensures value { result ≡ vec_len self.now.cells / (n * n) }
-        ensures fits { n * n * result ≤ vec_len self.now.cells }
-    {
-        let pairs = n as usize * n as usize;
-        self.cells.len() / pairs
     }
 
     // The rings of n printers, all empty and open.
@@ -43,34 +31,21 @@ impl<B: Body> RingTransport<B> {
         ensures meaning { ring_meaning B.remade self.new ≡ fresh n limit }
         ensures cells { self.new.cells ≡ self.old.cells }
     {
-        self.size = n;
+        self.members = Members::all_open(n);
         self.limit = limit;
-        self.flags = [true; 8];
-        self.starts = [0; 64];
-        self.helds = [0; 64];
+        self.circles = PairTable::filled(Circle { start: 0, held: 0 });
     }
 
-    // Makes the transport of n printers over the cells, empty and open, whatever it was before. It is refused, and left as
-    // it was, if n is below 2 or above 8, or if there are too few cells for a frame of each pair.
+    // Makes the transport of n printers over the cells, empty and open, whatever it was before: each ordered pair may hold
+    // an equal share of them. It is refused, and left as it was, if n is below 2 or above 8, or if there are too few cells
+    // for a frame of each pair.
     pub fn make(&mut self, n: u32) -> Result<(), TransportFault>
         ensures answer { result ≡ making_answer n (vec_len self.old.cells / (n * n)) }
         ensures meaning { result ≡ Ok tt → ring_meaning B.remade self.new ≡ fresh n (vec_len self.old.cells / (n * n)) }
         ensures cells { self.new.cells ≡ self.old.cells }
         ensures refused { (e : _) → result ≡ Err e → self.new ≡ self.old }
     {
-        if n < 2 || n > 8 {
-            return Err(TransportFault {
-                refusal: TransportRefusal::PrinterCount,
-                printer: 0,
-            });
-        }
-        let limit = self.limit_for(n);
-        if limit == 0 {
-            return Err(TransportFault {
-                refusal: TransportRefusal::NoLimit,
-                printer: 0,
-            });
-        }
+        let limit = fair_limit(n, self.cells.len(), n as usize * n as usize)?;
         self.start(n, limit);
         Ok(())
     }
@@ -79,7 +54,6 @@ impl<B: Body> RingTransport<B> {
     pub fn into_cells(self) -> Vec<FrameRow<B::Row>>
         ensures { result ≡ self.cells }
     {
-        let RingTransport { cells, .. } = self;
-        cells
+        self.cells
     }
 }

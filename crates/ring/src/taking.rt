@@ -1,27 +1,34 @@
 // What waits for one pair.
-ghost use Rattle.std.specs.Prelude.{◌≡◌};
+ghost use Rattle.std.specs.Prelude.{◌≡◌, length};
 ghost use Rattle.transport.specs.Nets.{oldest, after_take};
 ghost use Rattle.ring.specs.Meaning.{ring_meaning};
 
-use crate::places::{pair_index, place_after};
+use crate::circle::Circle;
 use crate::ring::RingTransport;
 use body::Body;
 use frame::Frame;
-use transport::stored_frame;
+use transport::{place_after, stored_frame};
 
 impl<B: Body> RingTransport<B> {
+    // How many frames wait for a pair.
+    pub(crate) fn waits(&self, sender: u32, receiver: u32) -> usize
+        ensures { result ≡ length ((ring_meaning B.remade self.now).waiting sender receiver) }
+    {
+        if !self.members.reaches(sender, receiver) {
+            return 0;
+        }
+        self.circles.get(sender, receiver).held
+    }
+
     // The oldest frame of a pair.
     pub(crate) fn oldest_of(&self, sender: u32, receiver: u32) -> Option<Frame<B>>
         ensures { result ≡ oldest (ring_meaning B.remade self.now) sender receiver }
     {
-        if !self.reaches(sender, receiver) {
+        if self.waits(sender, receiver) == 0 {
             return None;
         }
-        let pair = pair_index(sender, receiver);
-        if self.helds[pair] == 0 {
-            return None;
-        }
-        let at = self.cell_index(sender, receiver, self.starts[pair]);
+        let start = self.circles.get(sender, receiver).start;
+        let at = self.cell_index(sender, receiver, start);
         Some(stored_frame::<B>(self.cells[at]))
     }
 
@@ -29,15 +36,12 @@ impl<B: Body> RingTransport<B> {
     pub(crate) fn drop_oldest(&mut self, sender: u32, receiver: u32)
         ensures { ring_meaning B.remade self.new ≡ after_take (ring_meaning B.remade self.old) sender receiver }
     {
-        if !self.reaches(sender, receiver) {
+        if self.waits(sender, receiver) == 0 {
             return;
         }
-        let pair = pair_index(sender, receiver);
-        let held = self.helds[pair];
-        if held == 0 {
-            return;
-        }
-        self.starts[pair] = place_after(self.limit, self.starts[pair], 1);
-        self.helds[pair] = held - 1;
+        let Circle { start, held } = self.circles.get(sender, receiver);
+        let start = place_after(self.limit, start, 1);
+        let held = held - 1;
+        self.circles.set(sender, receiver, Circle { start, held });
     }
 }

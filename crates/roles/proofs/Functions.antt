@@ -1,8 +1,8 @@
 -- Functions from numbers: what a change at one place leaves, and what the tests below a number tell.
-use Rattle.std.proofs.Common.{◌≡◌, ℕ, zero, suc, ◌+◌, ◌-◌, ◌<◌, Bool, true, false, cond, ◌||◌, eqb, List, length, get_or, set, Some, Decides, refl, ap, ◌∙◌, add-one, arith}
+use Rattle.std.proofs.Common.{◌≡◌, ℕ, zero, suc, ◌+◌, ◌<◌, Bool, true, false, ◌||◌, eqb, List, length, get_or, set, Some, None, Option, MatchOption, Decides, sym, refl, ap, ◌∙◌, inl, inr, add-one, arith}
 use mathlib.Core.Path.{fun_ext}
 use Rattle.std.proofs.lemmas.List.{get_or-set_same, get_or-set_other}
-use Rattle.std.proofs.lemmas.Bool.{cond_both, or_from}
+use Rattle.std.proofs.lemmas.Bool.{cond_both, or_from, cases_eq}
 use Rattle.std.proofs.lemmas.Bool.Decides.{Decides-below_or, nat_tests}
 use Rattle.roles.specs.Functions.{put, any_below, highest}
 
@@ -55,15 +55,18 @@ any_below_more n p = rw add-one refl
 pub none_below_more : (n : ℕ) (p : ℕ → Bool) → any_below n p ≡ false → p n ≡ false → any_below (n + 1) p ≡ false
 none_below_more n p h e = any_below_more n p ∙ or_from (p n) (any_below n p) e h
 
--- the highest, with one number more
-pub highest_more : (n : ℕ) (p : ℕ → Bool) → highest (n + 1) p ≡ cond (p n) (Some n) (highest n p)
-highest_more n p = rw add-one refl
+-- what is found is the highest: it passes, and none above it does
+abbrev pub Highest : ℕ → (ℕ → Bool) → Option ℕ → Type 0
+Highest n p r = MatchOption r ((k : ℕ) → k < n → p k ≡ false) (λ h. (h < n) × (p h ≡ true) × ((k : ℕ) → h < k → k < n → p k ≡ false))
 
--- the same, counted down
-pub highest_last : (n : ℕ) (p : ℕ → Bool) → 0 < n → highest n p ≡ cond (p (n - 1)) (Some (n - 1)) (highest (n - 1) p)
-highest_last n p h = let e : n ≡ n - 1 + 1 = omega arith in ap (λ m. highest m p) e ∙ highest_more (n - 1) p
-
--- the highest is below the bound, and passes the test
-pub highest_found : (n : ℕ) (p : ℕ → Bool) (h : ℕ) → highest n p ≡ Some h → (h < n) × (p h ≡ true)
-highest_found zero p h e = absurd (let z : ◌≡◌ {A = ℕ} 0 1 = cc in omega arith)
-highest_found (suc n) p h e = let f = highest_found n p h in grind arith
+pub highest_is : (n : ℕ) (p : ℕ → Bool) (r : Option ℕ) → Highest n p r → r ≡ highest n p
+highest_is zero p None l = refl
+highest_is zero p (Some h) l = absurd (omega (arith, l.0))
+highest_is (suc n) p None l =
+    let i = highest_is n p None (λ k h. l k (omega arith)) in
+    let e = l n (omega arith) in grind arith
+highest_is (suc n) p (Some h) l = elim (cases_eq h n) [
+  | inl e ↦ let f : p n ≡ true = sym (ap p e) ∙ l.1 in grind arith
+  | inr e ↦ let i = highest_is n p (Some h) (omega (arith, l.0), l.1, λ k a b. l.2 k a (omega arith)) in
+      let f = l.2 n (omega (arith, l.0)) (omega arith) in grind arith
+]

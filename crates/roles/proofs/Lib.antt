@@ -1,3 +1,4 @@
 pub mod Functions
 pub mod NearestLaws
+pub mod Ranges
 pub mod RoleBounds

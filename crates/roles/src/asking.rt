@@ -4,7 +4,7 @@ ghost use Rattle.roles.specs.Configurations.{conf_of, opening_conf, is_active, r
 ghost use Rattle.roles.specs.Functions.{any_below};
 
 use crate::seats::{Configuration, Rank, Seat};
-use frame::RoleNumber;
+use frame::{PrinterCount, PrinterNumber, RoleNumber};
 
 const NO_SEAT: Seat = Seat {
     rank: Rank::Removed,
@@ -30,28 +30,19 @@ impl Configuration {
     pub fn seat(&self, printer: u32) -> Seat
         ensures { result ≡ conf_of self.now printer }
     {
-        match self.seats.get(printer as usize) {
-            Some(seat) => *seat,
-            None => NO_SEAT,
-        }
+        self.seats.get(printer as usize).copied().unwrap_or(NO_SEAT)
     }
 
     pub fn is_active(&self, printer: u32) -> bool
         ensures { result ≡ is_active (conf_of self.now) printer }
     {
-        match self.seat(printer).rank {
-            Rank::Active => true,
-            Rank::Passive | Rank::Removed => false,
-        }
+        self.seat(printer).rank == Rank::Active
     }
 
     pub(crate) fn remains(&self, printer: u32) -> bool
         ensures { result ≡ remains (conf_of self.now printer).rank }
     {
-        match self.seat(printer).rank {
-            Rank::Active | Rank::Passive => true,
-            Rank::Removed => false,
-        }
+        self.seat(printer).rank != Rank::Removed
     }
 
     // A printer with its role number.
@@ -69,26 +60,16 @@ impl Configuration {
     }
 
     // Whether any printer is active.
-    pub(crate) fn any_active(&self, count: u32) -> bool
-        ensures { result ≡ any_below count (is_active (conf_of self.now)) }
+    pub(crate) fn any_active(&self, count: PrinterCount) -> bool
+        ensures { result ≡ any_below count.value (is_active (conf_of self.now)) }
     {
-        for printer in 0..count {
-            if self.is_active(printer) {
-                return true;
-            }
-        }
-        false
+        (0..count.value).any(|printer| self.is_active(printer))
     }
 
     // Whether a printer other than this one is active.
-    pub(crate) fn another_active(&self, count: u32, printer: u32) -> bool
-        ensures { result ≡ another_active count (conf_of self.now) printer }
+    pub(crate) fn another_active(&self, count: PrinterCount, printer: PrinterNumber) -> bool
+        ensures { result ≡ another_active count.value (conf_of self.now) printer.value }
     {
-        for other in 0..count {
-            if self.is_active(other) && other != printer {
-                return true;
-            }
-        }
-        false
+        (0..count.value).any(|other| self.is_active(other) && other != printer.value)
     }
 }

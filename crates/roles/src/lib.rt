@@ -3,7 +3,9 @@
 
 mod asking;
 mod changing;
+mod delays;
 mod nearest;
 mod seats;
 
+pub use delays::Delays;
 pub use seats::{Configuration, Rank, RecordKind, Seat};

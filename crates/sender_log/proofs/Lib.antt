@@ -1,7 +1,4 @@
-pub mod LogLaws
-pub mod Fresh
+pub mod Makes
 pub mod Takes
-pub mod Closes
 pub mod Posts
 pub mod Tables
-pub mod Behind

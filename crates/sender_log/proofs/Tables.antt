@@ -1,83 +1,58 @@
 -- The table of how far the receivers are behind, receiver by receiver.
-use Rattle.std.proofs.Common.{◌≡◌, ℕ, ◌+◌, ◌*◌, ◌<◌, Bool, true, false, cond, ◌&&◌, eqb, ltb, ◌≢◌, ◌⊎◌, List, length, set, sym, refl, ap, ◌∙◌, ap₂, inl, inr, arith}
-use Rattle.std.proofs.lemmas.List.{get_or-set_same, get_or-set_other}
-use Rattle.std.proofs.lemmas.Bool.{cond-true, cond-false, cases_eq, lt-ltb}
+use Rattle.std.proofs.Common.{◌≡◌, ℕ, ◌+◌, ◌<◌, Bool, true, false, cond, not, ◌&&◌, eqb, ltb, sym, refl, ap, ◌∙◌, ap₂, arith}
+use Rattle.std.proofs.lemmas.Bool.{cond-true, cond-false}
 use Rattle.std.proofs.lemmas.Bool.Decides.{nat_tests}
+use Rattle.transport.specs.Members.{hears_in, opened}
 use Rattle.transport.specs.Tables.{at_pair}
-use Rattle.sender_log.specs.Logs.{carries}
-use Rattle.sender_log.proofs.LogLaws.{carries_parts}
+use Rattle.transport.specs.declared.Members.{Members}
+use Rattle.transport.specs.declared.PairTable.{PairTable}
+use Rattle.transport.proofs.TableLaws.{cond_pair}
+use Rattle.sender_log.specs.Behind.{FurtherBehind}
 
-cases_pair : (i s j k : ℕ) → ((i ≡ s) × (j ≡ k)) ⊎ (i ≡ s → j ≡ k → ⊥)
-cases_pair i s j k = elim (cases_eq i s) [
-  | inl a ↦ elim (cases_eq j k) [ inl b ↦ inl (a, b) | inr b ↦ inr (λ _. b) ]
-  | inr a ↦ inr (λ p _. a p)
-]
-
-module _ (n : ℕ) (flags : List Bool) (s : ℕ) (before : List ℕ) where
-  -- what the table has for a pair when the receivers below k that s carries to are one further behind
-  abbrev pub further : ℕ → ℕ → ℕ → ℕ
-  further k i j = cond (eqb i s && (ltb j k && carries n flags i j)) (at_pair before i j + 1) (at_pair before i j)
-
-  pub further_none : (i j : ℕ) → at_pair before i j ≡ further 0 i j
-  further_none i j = sym (cond-false (eqb i s && (ltb j 0 && carries n flags i j)) _ _ (zero_test (carries n flags i j)))
+module _ (m : Members) (before now : PairTable ℕ) (s : ℕ) where
+  pub further_none : FurtherBehind m before before s 0
+  further_none i j h = sym (cond-false _ _ _ (none (hears_in m i j)))
     where
-      zero_test : (x : Bool) → (eqb i s && (ltb j 0 && x)) ≡ false
-      zero_test x = grind (arith, nat_tests)
+      none : (x : Bool) → (eqb i s && (ltb j 0 && x)) ≡ false
+      none x = grind (arith, nat_tests)
 
   -- the receiver k is still as before
-  pub further_next : (k : ℕ) → further k s k ≡ at_pair before s k
-  further_next k = cond-false (eqb s s && (ltb k k && carries n flags s k)) _ _ (low (carries n flags s k))
+  pub further_next : (k : ℕ) → FurtherBehind m before now s k → k < 8 → at_pair 0 now s k ≡ at_pair 0 before s k
+  further_next k b h = b s k h ∙ cond-false _ _ _ (low (hears_in m s k))
     where
       low : (x : Bool) → (eqb s s && (ltb k k && x)) ≡ false
       low x = grind (arith, nat_tests)
 
-  further_other : (k i j : ℕ) → (i ≡ s → j ≡ k → ⊥) → further k i j ≡ further (k + 1) i j
-  further_other k i j ne = ap (λ b. cond b (at_pair before i j + 1) (at_pair before i j)) (same (carries n flags i j))
+  -- a receiver that hears is one further behind
+  pub further_step : (k : ℕ) (next : PairTable ℕ) (v : ℕ) → FurtherBehind m before now s k → k < 8 → hears_in m s k ≡ true → v ≡ at_pair 0 now s k + 1 →
+      ((i j : ℕ) → j < 8 → at_pair 0 next i j ≡ cond (eqb i s && eqb j k) v (at_pair 0 now i j)) →
+      FurtherBehind m before next s (k + 1)
+  further_step k next v b hk hh hv w i j hj =
+      w i j hj ∙ sym (cond_pair i s j k _ _ _ here (λ ne. ap (λ c. cond c (at_pair 0 before i j + 1) (at_pair 0 before i j)) (other (hears_in m i j) ne) ∙ sym (b i j hj)))
     where
-      same : (x : Bool) → (eqb i s && (ltb j k && x)) ≡ (eqb i s && (ltb j (k + 1) && x))
-      same x = grind (arith, nat_tests)
+      yes : (x : Bool) → i ≡ s → j ≡ k → x ≡ true → (eqb i s && (ltb j (k + 1) && x)) ≡ true
+      yes x p q e = grind (arith, nat_tests)
 
-  pub further_step : (xs : List ℕ) (k : ℕ) → s * 8 + k < length xs → k < 8 → carries n flags s k ≡ true →
-      ((i j : ℕ) → j < 8 → at_pair xs i j ≡ further k i j) →
-      (i j : ℕ) → j < 8 → at_pair (set xs (s * 8 + k) (at_pair xs s k + 1)) i j ≡ further (k + 1) i j
-  further_step xs k l hk hc inv i j hj = elim (cases_pair i s j k) [
-    | inl e ↦ ap₂ (at_pair xs') e.0 e.1 ∙ (there ∙ sym (ap₂ (further (k + 1)) e.0 e.1))
-    | inr e ↦
-        let ne : i * 8 + j ≢ s * 8 + k = λ x. e (omega arith) (omega arith) in
-        get_or-set_other xs (s * 8 + k) (i * 8 + j) _ 0 ne ∙ (inv i j hj ∙ further_other k i j e)
-  ]
+      other : (x : Bool) → (i ≡ s → j ≡ k → ⊥) → (eqb i s && (ltb j (k + 1) && x)) ≡ (eqb i s && (ltb j k && x))
+      other x ne = grind (arith, nat_tests)
+
+      here : i ≡ s → j ≡ k → cond (eqb i s && (ltb j (k + 1) && hears_in m i j)) (at_pair 0 before i j + 1) (at_pair 0 before i j) ≡ v
+      here p q =
+          cond-true _ _ _ (yes (hears_in m i j) p q (ap₂ (hears_in m) p q ∙ hh)) ∙
+          (ap₂ (λ a b. at_pair 0 before a b + 1) p q ∙ (ap (λ x. x + 1) (sym (further_next k b hk)) ∙ sym hv))
+
+  pub further_skip : (k : ℕ) → FurtherBehind m before now s k → hears_in m s k ≡ false → FurtherBehind m before now s (k + 1)
+  further_skip k b hh i j hj = b i j hj ∙ ap (λ c. cond c (at_pair 0 before i j + 1) (at_pair 0 before i j)) (same (hears_in m i j) (λ p q. ap₂ (hears_in m) p q ∙ hh))
     where
-      xs' : List ℕ
-      xs' = set xs (s * 8 + k) (at_pair xs s k + 1)
+      same : (x : Bool) → (i ≡ s → j ≡ k → x ≡ false) → (eqb i s && (ltb j k && x)) ≡ (eqb i s && (ltb j (k + 1) && x))
+      same true ne = grind (arith, nat_tests)
+      same false ne = grind (arith, nat_tests)
 
-      high : (x : Bool) → x ≡ true → (eqb s s && (ltb k (k + 1) && x)) ≡ true
-      high x e = grind (arith, nat_tests)
-
-      there : at_pair xs' s k ≡ further (k + 1) s k
-      there =
-          get_or-set_same xs (s * 8 + k) _ 0 l ∙
-          (ap (λ x. x + 1) (inv s k hk ∙ further_next k) ∙
-          sym (cond-true (eqb s s && (ltb k (k + 1) && carries n flags s k)) _ _ (high (carries n flags s k) hc)))
-
-  pub further_skip : (k : ℕ) → carries n flags s k ≡ false → (i j : ℕ) → further k i j ≡ further (k + 1) i j
-  further_skip k hc i j = elim (cases_pair i s j k) [
-    | inl e ↦ ap₂ (further k) e.0 e.1 ∙ (there ∙ sym (ap₂ (further (k + 1)) e.0 e.1))
-    | inr e ↦ further_other k i j e
-  ]
+  -- all receivers were gone through
+  pub further_all : FurtherBehind m before now s m.size → (i j : ℕ) → j < 8 →
+      at_pair 0 now i j ≡ cond (eqb i s && hears_in m i j) (at_pair 0 before i j + 1) (at_pair 0 before i j)
+  further_all b i j h = b i j h ∙ ap (λ c. cond (eqb i s && c) (at_pair 0 before i j + 1) (at_pair 0 before i j)) (all (ltb j m.size) (opened m j) (not (eqb j i)))
     where
-      same : (x : Bool) → x ≡ false → (eqb s s && (ltb k k && x)) ≡ (eqb s s && (ltb k (k + 1) && x))
-      same x e = grind (arith, nat_tests)
-
-      there : further k s k ≡ further (k + 1) s k
-      there = ap (λ b. cond b (at_pair before s k + 1) (at_pair before s k)) (same (carries n flags s k) hc)
-
-  pub further_all : (i j : ℕ) → further n i j ≡ cond (eqb i s && carries n flags i j) (at_pair before i j + 1) (at_pair before i j)
-  further_all i j = ap (λ b. cond (eqb i s && b) (at_pair before i j + 1) (at_pair before i j)) (go (carries n flags i j) refl)
-    where
-      go : (b : Bool) → carries n flags i j ≡ b → (ltb j n && carries n flags i j) ≡ carries n flags i j
-      go true e = ap (λ x. x && carries n flags i j) (lt-ltb j n (carries_parts n flags i j e).1)
-      go false e = drop_left (ltb j n) (carries n flags i j) e
-        where
-          drop_left : (x y : Bool) → y ≡ false → (x && y) ≡ y
-          drop_left true y e = refl
-          drop_left false y e = sym e
+      all : (a x y : Bool) → (a && ((a && x) && y)) ≡ ((a && x) && y)
+      all true x y = refl
+      all false x y = refl

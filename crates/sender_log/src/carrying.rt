@@ -1,13 +1,12 @@
-// The log transport as a transport.
+// The logs as a transport.
 ghost use Rattle.std.specs.Prelude.{◌≡◌, ◌≤◌};
-ghost use Rattle.transport.specs.Nets.{post_answer, after_post, most_posts};
+ghost use Rattle.transport.specs.Nets.{after_post, most_posts, post_answer};
 ghost use Rattle.sender_log.specs.Meaning.{log_meaning};
 
-use crate::pairs::move_on;
-use crate::state::LogTransport;
+use crate::log::LogTransport;
 use body::Body;
 use frame::{Frame, Payload, PrinterNumber};
-use transport::{Transport, TransportFault, TransportRefusal, stored_frame};
+use transport::{Transport, TransportFault, TransportRefusal};
 
 impl<B: Body> Transport for LogTransport<B> {
     type Body = B;
@@ -20,7 +19,7 @@ impl<B: Body> Transport for LogTransport<B> {
         ensures answer { result ≡ post_answer (log_meaning B.remade self.old) sender.value }
         ensures after { log_meaning B.remade self.new ≡ after_post (log_meaning B.remade self.old) (record { sender = sender; payload = payload }) }
     {
-        if !self.has_room(sender.value) {
+        if self.posts_left(sender.value) == 0 {
             return Err(TransportFault {
                 refusal: TransportRefusal::PostRefused,
                 printer: sender.value,
@@ -31,27 +30,16 @@ impl<B: Body> Transport for LogTransport<B> {
     }
 
     fn look(&mut self, sender: u32, receiver: u32) -> Option<Frame<B>> {
-        let behind = self.waits(sender, receiver);
-        if behind == 0 {
-            return None;
-        }
-        let at = self.cell_index(sender, self.cursor(sender, behind));
-        Some(stored_frame::<B>(self.cells[at]))
+        self.oldest_of(sender, receiver)
     }
 
     fn take(&mut self, sender: u32, receiver: u32) {
-        if self.waits(sender, receiver) == 0 {
-            return;
-        }
-        move_on(&mut self.behinds, sender as usize * 8 + receiver as usize);
+        self.drop_oldest(sender, receiver);
     }
 
     // The pairs to a closed printer count as empty, so its flag is all there is to clear.
     fn close(&mut self, printer: u32) {
-        if printer >= self.size {
-            return;
-        }
-        self.flags[printer as usize] = false;
+        self.members.shut(printer);
     }
 
     // Exactly the number of posts that the sender could make in a row.
@@ -64,10 +52,10 @@ impl<B: Body> Transport for LogTransport<B> {
     }
 
     fn printers(&mut self) -> u32 {
-        self.size
+        self.members.size()
     }
 
     fn is_open(&mut self, printer: u32) -> bool {
-        printer < self.size && self.flags[printer as usize]
+        self.members.is_open(printer)
     }
 }

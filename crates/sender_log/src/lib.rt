@@ -1,12 +1,11 @@
 // A transport that stores each frame once, in the log of its sender, with a cursor for each receiver.
 #![tactic(auto)]
 
-mod capacity;
 mod carrying;
+mod log;
 mod making;
-mod pairs;
 mod places;
 mod posting;
-mod state;
+mod taking;
 
-pub use state::LogTransport;
+pub use log::LogTransport;

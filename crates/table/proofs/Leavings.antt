@@ -1,16 +1,17 @@
 -- A departure, put together from its parts; the bounds that it keeps; and that there is room for it.
-use Rattle.std.proofs.Common.{◌≡◌, ℕ, ◌+◌, ◌-◌, ◌<◌, ◌≤◌, Bool, true, false, cond, ltb, List, length, Some, None, Option, refl, ap, ◌∙◌, subst, arith}
+use Rattle.std.proofs.Common.{◌≡◌, ℕ, ◌+◌, ◌-◌, ◌<◌, ◌≤◌, Bool, true, false, cond, not, ◌&&◌, ltb, List, length, Some, None, Option, sym, refl, ap, ◌∙◌, subst, arith}
 use Rattle.std.proofs.lemmas.Bool.{cond_both, ltb-true}
 use Rattle.std.proofs.lemmas.Bool.Decides.{nat_tests}
 use Rattle.frame.specs.declared.RoleNumber.{RoleNumber}
-use Rattle.roles.specs.Configurations.{Conf, changed, own_pair}
+use Rattle.roles.specs.Configurations.{Conf, changed, is_active, own_pair}
+use Rattle.roles.proofs.Functions.{put_own}
 use Rattle.roles.proofs.RoleBounds.{changed_bound}
 use Rattle.roles.specs.declared.RecordKind.TheVariants.{Gone}
-use Rattle.backlog.specs.Holdings.{Holding, drop_messages}
+use Rattle.backlog.specs.Holdings.{Holding, with_messages, drop_messages}
 use Rattle.backlog.specs.Tickets.{first_ticket, tickets_held}
 use Rattle.backlog.specs.declared.Ticket.{Ticket}
 use Rattle.backlog.proofs.TicketLaws.{There, first_ticket_there, tickets_held_pass}
-use Rattle.table.specs.Departures.{is_promoted, own_taken_over, promoted_duty, bereft, departed, left_by}
+use Rattle.table.specs.Departures.{is_promoted, own_taken_over, promoted_duty, promotion, duty_promoted, holding_promoted, bereft, departed, left_by}
 use Rattle.table.specs.Desks.{Desk, desk, next_to_pass, only_if, pass_one, passing, pass_all}
 use Rattle.table.specs.Passing.{ruled, may_pass}
 use Rattle.table.specs.Printers.{Printer}
@@ -24,18 +25,29 @@ use Rattle.table.proofs.Passings.{next_of, passing_keeps}
 use Rattle.table.proofs.Paths.{printer_path}
 use Rattle.table.proofs.Sound.{Sound}
 
+-- an office taken, or not, by what a departure says
+holding_of_promotion : (won : Bool) (s : ℕ × RoleNumber) (me : ℕ) (h : Holding) → holding_promoted (promotion won s) me h ≡ own_taken_over won me s h
+holding_of_promotion true s me h = refl
+holding_of_promotion false s me h = sym (ap (with_messages h) (put_own h.messages me))
+
+duty_of_promotion : (won : Bool) (s : ℕ × RoleNumber) (d : Duty) → duty_promoted (promotion won s) d ≡ promoted_duty won s d
+duty_of_promotion true s d = refl
+duty_of_promotion false s d = refl
+
 module _ (n : ℕ) (delay : ℕ → ℕ) (me : ℕ) (p : Printer) (x : ℕ) where
   -- what each part became is what a departure says
-  pub bereaved : (c : Conf) (won : Bool) (own : ℕ × RoleNumber) (g h : Holding) (d e : Duty) (undelivered : ℕ) →
-      c ≡ changed n p.conf Gone x → won ≡ is_promoted me p.conf c → own ≡ own_pair c me → g ≡ drop_messages p.holding x →
-      h ≡ own_taken_over won me own g → d ≡ promoted_duty won own p.duty → undelivered ≡ (h.messages me).count → e ≡ ruled n delay me c undelivered d →
+  pub bereaved : (was : Bool) (c : Conf) (o : Option (ℕ × RoleNumber)) (g h : Holding) (d e : Duty) (undelivered : ℕ) →
+      was ≡ is_active p.conf me → c ≡ changed n p.conf Gone x → o ≡ promotion (is_active c me && not was) (own_pair c me) →
+      g ≡ drop_messages p.holding x → h ≡ holding_promoted o me g → d ≡ duty_promoted o p.duty → undelivered ≡ (h.messages me).count →
+      e ≡ ruled n delay me c undelivered d →
       record { clocks = p.clocks; duty = e; conf = c; holding = h; length = p.length + 1 } ≡ bereft n delay me p x
-  bereaved c won own g h d e undelivered ec ew eo eg eh ed eu ee =
-      let w' = ew ∙ ap (is_promoted me p.conf) ec in
-      let o' = eo ∙ ap (λ (k : Conf). own_pair k me) ec in
-      let h' = eh ∙ (λ i. own_taken_over (w' i) me (o' i) (eg i)) in
-      let d' = ed ∙ (λ i. promoted_duty (w' i) (o' i) p.duty) in
-      let u' = eu ∙ ap (λ (k : Holding). (k.messages me).count) h' in
+  bereaved was c o g h d e undelivered ew ec eo eg eh ed eu ee =
+      let k = changed n p.conf Gone x in
+      let won = is_promoted me p.conf k in
+      let o' = eo ∙ (λ i. promotion (is_active (ec i) me && not (ew i)) (own_pair (ec i) me)) in
+      let h' = eh ∙ ((λ i. holding_promoted (o' i) me (eg i)) ∙ holding_of_promotion won (own_pair k me) me (drop_messages p.holding x)) in
+      let d' = ed ∙ (ap (λ q. duty_promoted q p.duty) o' ∙ duty_of_promotion won (own_pair k me) p.duty) in
+      let u' = eu ∙ ap (λ (m : Holding). (m.messages me).count) h' in
       printer_path _ _ refl (ee ∙ (λ i. ruled n delay me (ec i) (u' i) (d' i))) ec h' refl
 
   -- a departure keeps the bounds

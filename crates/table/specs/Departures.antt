@@ -1,5 +1,5 @@
 -- What the departure of another printer does.
-use Rattle.std.specs.Prelude.{ℕ, ◌+◌, Bool, cond, not, ◌&&◌}
+use Rattle.std.specs.Prelude.{ℕ, ◌+◌, Bool, true, cond, not, ◌&&◌, Some, None, Option}
 use Rattle.frame.specs.declared.RoleNumber.{RoleNumber}
 use Rattle.roles.specs.Configurations.{Conf, is_active, own_pair, changed}
 use Rattle.roles.specs.Functions.{put}
@@ -38,6 +38,18 @@ promoted_duty won s d = record {
   owes = not won && d.owes;
   turn = d.turn;
 }
+
+-- who has become active, with its role number; what that changes in its part and in what it holds
+abbrev pub promotion : Bool → ℕ × RoleNumber → Option (ℕ × RoleNumber)
+promotion won s = cond won (Some s) None
+
+abbrev pub duty_promoted : Option (ℕ × RoleNumber) → Duty → Duty
+duty_promoted None d = d
+duty_promoted (Some s) d = promoted_duty true s d
+
+abbrev pub holding_promoted : Option (ℕ × RoleNumber) → ℕ → Holding → Holding
+holding_promoted None me h = h
+holding_promoted (Some s) me h = own_taken_over true me s h
 
 -- printer x is gone: its messages are dropped, and the gone record has its effect
 abbrev pub bereft : ℕ → (ℕ → ℕ) → ℕ → Printer → ℕ → Printer

@@ -12,26 +12,31 @@ use crate::passing::Heed;
 use crate::records::{Record, write_record};
 use crate::table::PrinterTable;
 use backlog::Ticket;
-use roles::RecordKind;
+use frame::PrinterNumber;
+use roles::{Delays, RecordKind};
 
 impl PrinterTable {
     // The effect of one record: ticket and message are dropped, the configuration and the printer's own part change.
-    fn deliver(&mut self, count: u32, delays: &[u16], kind: RecordKind, ticket: Ticket)
-        requires count_bound { count < 9 }
-        requires delays_len { length delays.now ≡ count }
+    fn deliver(&mut self, delays: &Delays, kind: RecordKind, ticket: Ticket)
         requires sender_bound { ticket.sender < 8 }
         requires issuer_bound { ticket.issuer < 8 }
         requires length_bound { self.old.length < 65536 }
         requires kind_value { kind ≡ kind_held (printer_of self.old) ticket }
-        ensures table { printer_of self.new ≡ passed_on count (delay_in delays.now) self.old.me.value (printer_of self.old) ticket }
+        ensures table { printer_of self.new ≡ passed_on (length delays.now.row.now) (delay_in delays.now.row.now) self.old.me.value (printer_of self.old) ticket }
         ensures me { self.new.me ≡ self.old.me }
     {
         let me = self.me.value;
-        self.configuration.record(count, kind, ticket.sender);
+        let sender = PrinterNumber {
+            value: ticket.sender,
+        };
+        self.configuration.record(delays.count(), kind, sender);
         self.duty
             .record(me, &self.configuration, kind, ticket.sender);
-        self.backlog.pass_first(ticket.sender, ticket.issuer);
-        let undelivered = self.backlog.messages[me as usize].count;
+        let issuer = PrinterNumber {
+            value: ticket.issuer,
+        };
+        self.backlog.pass_first(sender, issuer);
+        let undelivered = self.backlog.messages_held(self.me);
         self.duty.rule(me, &self.configuration, delays, undelivered);
         self.length += 1;
     }
@@ -43,43 +48,41 @@ impl PrinterTable {
     pub fn pass_on<R: Copy>(
         &mut self,
         heed: Heed,
-        delays: &[u16],
+        delays: &Delays,
         list: &mut [Record<R>],
         shelf: &[R],
     )
-        requires delays_len_bound { length delays.now < 9 }
         requires list_len_bound { length list.old ≤ 65536 }
-        ensures after { desk (printer_of self.new) list.new shelf.now ≡ pass_all heed (length delays.now) (delay_in delays.now) self.old.me.value (desk (printer_of self.old) list.old shelf.now) }
+        ensures after { desk (printer_of self.new) list.new shelf.now ≡ pass_all heed (length delays.now.row.now) (delay_in delays.now.row.now) self.old.me.value (desk (printer_of self.old) list.old shelf.now) }
         ensures me { self.new.me ≡ self.old.me }
-        ensures stops { Stuck heed (length delays.now) self.old.me.value (desk (printer_of self.new) list.new shelf.now) }
+        ensures stops { Stuck heed (length delays.now.row.now) self.old.me.value (desk (printer_of self.new) list.new shelf.now) }
         ensures grows { Grown (desk (printer_of self.old) list.old shelf.now) (desk (printer_of self.new) list.new shelf.now) }
-        ensures given { Given (length delays.now) (desk (printer_of self.old) list.old shelf.now) → Given (length delays.now) (desk (printer_of self.new) list.new shelf.now) }
+        ensures given { Given (length delays.now.row.now) (desk (printer_of self.old) list.old shelf.now) → Given (length delays.now.row.now) (desk (printer_of self.new) list.new shelf.now) }
     {
-        let count = delays.len() as u32;
-        while let Some(ticket) = self.next_to_pass(heed, count, list.len()) {
-            self.pass_one(count, delays, ticket, list, shelf);
+        while let Some(ticket) = self.next_to_pass(heed, delays.count(), list.len()) {
+            self.pass_one(delays, ticket, list, shelf);
         }
     }
 
     // Passes one ticket on.
     fn pass_one<R: Copy>(
         &mut self,
-        count: u32,
-        delays: &[u16],
+        delays: &Delays,
         ticket: Ticket,
         list: &mut [Record<R>],
         shelf: &[R],
     )
-        requires count_bound { count < 9 }
-        requires delays_len { length delays.now ≡ count }
         requires sender_bound { ticket.sender < 8 }
         requires issuer_bound { ticket.issuer < 8 }
         requires room { self.old.length < length list.old }
         requires list_len_bound { length list.old ≤ 65536 }
-        ensures after { desk (printer_of self.new) list.new shelf.now ≡ pass_one count (delay_in delays.now) self.old.me.value (desk (printer_of self.old) list.old shelf.now) ticket }
+        ensures after { desk (printer_of self.new) list.new shelf.now ≡ pass_one (length delays.now.row.now) (delay_in delays.now.row.now) self.old.me.value (desk (printer_of self.old) list.old shelf.now) ticket }
         ensures me { self.new.me ≡ self.old.me }
     {
-        let kind = self.backlog.message(ticket.sender, ticket.message).kind;
+        let sender = PrinterNumber {
+            value: ticket.sender,
+        };
+        let kind = self.backlog.message(sender, ticket.message).kind;
         write_record(
             list,
             self.length as usize,
@@ -88,6 +91,6 @@ impl PrinterTable {
             ticket.message,
             shelf,
         );
-        self.deliver(count, delays, kind, ticket);
+        self.deliver(delays, kind, ticket);
     }
 }

@@ -1,10 +1,11 @@
 // The frames that a printer is to post.
 ghost use Rattle.std.specs.Prelude.{◌≡◌, ◌<◌, true, IfSome};
+ghost use Rattle.std.specs.Option.{option_map};
 ghost use Rattle.table.specs.Dues.{may_ticket, ticket_due, clock_due, due, FitsTicket, FitsDue};
 ghost use Rattle.table.specs.Printers.{printer_of};
 
 use crate::table::PrinterTable;
-use frame::MessageNumber;
+use frame::{MessageNumber, PrinterCount, PrinterNumber};
 
 // What is due of a printer.
 #[derive(Clone, Copy)]
@@ -19,22 +20,19 @@ pub enum Due {
 
 impl PrinterTable {
     // Whether the printer issues tickets now.
-    fn may_ticket(&self, count: u32) -> bool
-        requires { count < 9 }
+    fn may_ticket(&self, count: PrinterCount) -> bool
         ensures room { result ≡ true → ((printer_of self.now).holding.tickets self.now.me.value).count < 16 }
-        ensures answer { result ≡ may_ticket count self.now.me.value (printer_of self.now) }
+        ensures answer { result ≡ may_ticket count.value self.now.me.value (printer_of self.now) }
     {
-        let me = self.me.value;
-        self.configuration.is_active(me)
-            && !self.backlog.is_down_ticketed(count, me)
-            && self.backlog.tickets[me as usize].count < 16
+        self.configuration.is_active(self.me.value)
+            && !self.backlog.is_down_ticketed(count, self.me)
+            && self.backlog.tickets[self.me.index()].count < 16
     }
 
     // The message that is to get the next ticket.
-    fn ticket_due(&self, count: u32) -> Option<(u32, MessageNumber)>
-        requires { count < 9 }
-        ensures fits { IfSome result (λ m. FitsTicket self.now.me.value (printer_of self.now) m.0 m.1) }
-        ensures answer { result ≡ ticket_due count self.now.me.value (printer_of self.now) }
+    fn ticket_due(&self, count: PrinterCount) -> Option<(PrinterNumber, MessageNumber)>
+        ensures fits { IfSome result (λ m. FitsTicket self.now.me.value (printer_of self.now) m.0.value m.1) }
+        ensures answer { option_map (λ m. (m.0.value, m.1)) result ≡ ticket_due count.value self.now.me.value (printer_of self.now) }
     {
         if !self.may_ticket(count) {
             return None;
@@ -50,23 +48,17 @@ impl PrinterTable {
     }
 
     // The first frame that is due, in a hall of so many printers.
-    pub fn due(&self, count: u32) -> Option<Due>
-        requires { count < 9 }
-        ensures answer { result ≡ due count self.now.me.value (printer_of self.now) }
+    pub fn due(&self, count: PrinterCount) -> Option<Due>
+        ensures answer { result ≡ due count.value self.now.me.value (printer_of self.now) }
         ensures fits { IfSome result (FitsDue self.now.me.value (printer_of self.now)) }
     {
         if self.duty.owes {
             return Some(Due::Reassignment);
         }
-        match self.ticket_due(count) {
-            Some((sender, message)) => Some(Due::Ticket { sender, message }),
-            None => {
-                if self.is_clock_due() {
-                    Some(Due::Clock)
-                } else {
-                    None
-                }
-            }
+        if let Some((sender, message)) = self.ticket_due(count) {
+            let sender = sender.value;
+            return Some(Due::Ticket { sender, message });
         }
+        self.is_clock_due().then_some(Due::Clock)
     }
 }

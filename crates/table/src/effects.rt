@@ -1,11 +1,11 @@
 // What a record changes in a printer's part.
-ghost use Rattle.std.specs.Prelude.{◌≡◌, ◌<◌, length};
+ghost use Rattle.std.specs.Prelude.{◌≡◌, length};
 ghost use Rattle.roles.specs.Configurations.{conf_of};
 ghost use Rattle.roles.specs.Nearest.{delay_in};
 ghost use Rattle.table.specs.Passing.{duty_after, unserved, ruled};
 
 use crate::duty::{Duty, PrinterState};
-use roles::{Configuration, RecordKind};
+use roles::{Configuration, Delays, RecordKind};
 
 impl Duty {
     // The effect of a record of `owner` on the part of printer `me`, by the configuration after it.
@@ -47,16 +47,15 @@ impl Duty {
         &mut self,
         me: u32,
         configuration: &Configuration,
-        delays: &[u16],
+        delays: &Delays,
         undelivered: u32,
     )
-        requires { length delays.now < 9 }
-        ensures { self.new ≡ ruled (length delays.now) (delay_in delays.now) me (conf_of configuration.now) undelivered self.old }
+        ensures { self.new ≡ ruled (length delays.now.row.now) (delay_in delays.now.row.now) me (conf_of configuration.now) undelivered self.old }
     {
         let lost = self.is_unserved(me, configuration);
         if lost {
             if let Some(nearest) = configuration.nearest(delays) {
-                self.sequencer = configuration.pair_of(nearest as u32);
+                self.sequencer = configuration.pair_of(nearest.value);
             }
         }
         self.owes = undelivered > 0 && (self.owes || lost);

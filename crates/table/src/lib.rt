@@ -14,5 +14,5 @@ mod table;
 pub use dues::Due;
 pub use duty::{Duty, PrinterState};
 pub use passing::Heed;
-pub use records::Record;
+pub use records::{Record, shelf_place};
 pub use table::{Clocks, PrinterTable};

@@ -6,7 +6,7 @@ ghost use Rattle.table.specs.Printers.{printer_of, hearing_of};
 
 use crate::table::{Clocks, PrinterTable};
 use backlog::Ticket;
-use frame::TicketNumber;
+use frame::{PrinterCount, TicketNumber};
 
 // What passing on heeds: the clocks of the active printers, or nothing, when a printer leaves.
 #[derive(Clone, Copy)]
@@ -23,15 +23,17 @@ fn qualifies(printer: u32, clock: TicketNumber, ticket: Ticket) -> bool
 }
 
 impl Clocks {
-    // The clock of a printer, as far as it is known to printer `me`.
+    // The clock of a printer, as far as it is known to printer `me`; of one that there is not, 0.
     fn known(&self, me: u32, printer: u32) -> TicketNumber
-        requires { printer < 8 }
         ensures { result.0 ≡ known_clock me (hearing_of self.now) printer }
     {
         if printer == me {
             self.own
         } else {
-            self.heard[printer as usize]
+            self.heard
+                .get(printer as usize)
+                .copied()
+                .unwrap_or(TicketNumber(0))
         }
     }
 }
@@ -39,7 +41,6 @@ impl Clocks {
 impl PrinterTable {
     // Whether a printer is active and does not qualify.
     fn holds_up(&self, ticket: Ticket, printer: u32) -> bool
-        requires { printer < 8 }
         ensures { result ≡ holds_up self.now.me.value (printer_of self.now) ticket printer }
     {
         self.configuration.is_active(printer)
@@ -47,22 +48,15 @@ impl PrinterTable {
     }
 
     // Whether every active printer qualifies.
-    fn all_qualify(&self, count: u32, ticket: Ticket) -> bool
-        requires { count < 9 }
-        ensures { result ≡ all_qualify count self.now.me.value (printer_of self.now) ticket }
+    fn all_qualify(&self, count: PrinterCount, ticket: Ticket) -> bool
+        ensures { result ≡ all_qualify count.value self.now.me.value (printer_of self.now) ticket }
     {
-        for printer in 0..count {
-            if self.holds_up(ticket, printer) {
-                return false;
-            }
-        }
-        true
+        !(0..count.value).any(|printer| self.holds_up(ticket, printer))
     }
 
-    fn may_pass(&self, heed: Heed, count: u32, ticket: Ticket) -> bool
-        requires { count < 9 }
+    fn may_pass(&self, heed: Heed, count: PrinterCount, ticket: Ticket) -> bool
         ensures there { result ≡ true → ticket.sender < 8 }
-        ensures answer { result ≡ may_pass heed count self.now.me.value (printer_of self.now) ticket }
+        ensures answer { result ≡ may_pass heed count.value self.now.me.value (printer_of self.now) ticket }
     {
         self.backlog.holds(ticket.sender, ticket.message)
             && match heed {
@@ -72,23 +66,20 @@ impl PrinterTable {
     }
 
     // The ticket that can be passed on next, into a list of so many places.
-    pub(crate) fn next_to_pass(&self, heed: Heed, count: u32, places: usize) -> Option<Ticket>
-        requires { count < 9 }
+    pub(crate) fn next_to_pass(
+        &self,
+        heed: Heed,
+        count: PrinterCount,
+        places: usize,
+    ) -> Option<Ticket>
         ensures there { IfSome result (λ t. (t.sender < 8) × (t.issuer < 8) × (self.now.length < places)) }
-        ensures answer { result ≡ next_to_pass heed count self.now.me.value (printer_of self.now) places }
+        ensures answer { result ≡ next_to_pass heed count.value self.now.me.value (printer_of self.now) places }
     {
         if self.length as usize >= places {
             return None;
         }
-        match self.backlog.first_ticket(count) {
-            Some(ticket) => {
-                if self.may_pass(heed, count, ticket) {
-                    Some(ticket)
-                } else {
-                    None
-                }
-            }
-            None => None,
-        }
+        self.backlog
+            .first_ticket(count)
+            .filter(|ticket| self.may_pass(heed, count, *ticket))
     }
 }

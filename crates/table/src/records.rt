@@ -15,7 +15,7 @@ pub struct Record<R> {
 }
 
 // The place on a printer's shelf for the body of a message.
-fn shelf_place(printer: u32, number: MessageNumber) -> usize
+pub fn shelf_place(printer: u32, number: MessageNumber) -> usize
     ensures { result ≡ shelf_place printer number.0 }
 {
     printer as usize * 8 + (number.0 % 8) as usize
@@ -25,12 +25,9 @@ fn shelf_place(printer: u32, number: MessageNumber) -> usize
 fn body_for<R: Copy>(kind: RecordKind, shelf: &[R], place: usize, old: R) -> R
     ensures { result ≡ body_for kind shelf.now place old }
 {
-    if place >= shelf.len() {
-        return old;
-    }
-    match kind {
-        RecordKind::Data => shelf[place],
-        RecordKind::Up | RecordKind::Down | RecordKind::Gone => old,
+    match (kind, shelf.get(place)) {
+        (RecordKind::Data, Some(body)) => *body,
+        _ => old,
     }
 }
 

@@ -4,3 +4,4 @@ pub mod StoredLaws
 pub mod Takes
 pub mod SeriesLaws
 pub mod TableLaws
+pub mod Kept

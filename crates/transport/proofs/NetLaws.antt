@@ -1,9 +1,10 @@
 -- Meanings that are the same, and what the tests of a net tell.
-use Rattle.std.proofs.Common.{◌≡◌, ℕ, zero, suc, ◌+◌, ◌<◌, min, Bool, true, false, cond, ◌&&◌, eqb, ltb, sym, refl, ap, ◌∙◌, ap₂, inl, inr, add-one, arith}
+use Rattle.std.proofs.Common.{◌≡◌, ℕ, zero, suc, ◌+◌, ◌-◌, ◌<◌, ◌≤◌, min, Bool, true, false, cond, not, ◌&&◌, eqb, ltb, leb, length, sym, refl, ap, ◌∙◌, ap₂, inl, inr, add-one, arith}
 use mathlib.Core.Path.{fun_ext}
-use Rattle.std.proofs.lemmas.Bool.{and_parts, and_left, and_right, cases_eq, cond_both, eqb-true, ltb-true, both_ways}
+use Rattle.std.proofs.lemmas.Bool.{and_parts, and_left, and_right, cases_eq, cond_both, eqb-true, ltb-true, lt-ltb, both_ways}
+use Rattle.std.proofs.lemmas.Bool.Decides.{nat_tests}
 use Rattle.frame.specs.declared.Frame.{Frame}
-use Rattle.transport.specs.Nets.{Net, all_below, least_below, accepts, hears, after_post}
+use Rattle.transport.specs.Nets.{Net, all_below, least_below, accepts, hears, is_full, room, most_posts, after_post}
 
 -- functions equal at every argument are equal
 pub net_path : {B : Type 0} (a b : Net B) → a.size ≡ b.size → a.limit ≡ b.limit → ((j : ℕ) → a.opened j ≡ b.opened j) →
@@ -46,3 +47,40 @@ post_refused t f h = net_path _ _ refl refl (λ j. refl) (λ i j.
     let q = and_parts (accepts t i) (hears t i j) p.1 in
     absurd (both_ways (accepts t i) (ap (accepts t) (eqb-true i f.sender.value p.0) ∙ h) q.0))
     (λ _. refl))
+
+-- where a post is accepted, each pair that it lengthens has room
+pub accepts_room : {B : Type 0} (t : Net B) (s j : ℕ) → accepts t s ≡ true → j < t.size → hears t s j ≡ true →
+    length (t.waiting s j) < t.limit
+accepts_room t s j ha hj hh =
+    go (hears t s j) t.limit (length (t.waiting s j)) hh
+    (all_below_at t.size _ j hj (and_parts (ltb s t.size) _ ha).1)
+  where
+    go : (h : Bool) (a b : ℕ) → h ≡ true → not (h && leb a b) ≡ true → b < a
+    go h a b p q = grind (arith, nat_tests)
+
+-- a post is accepted where one could be made
+accepts_spare : {B : Type 0} (t : Net B) (s : ℕ) → 1 ≤ t.limit → accepts t s ≡ ltb 0 (most_posts t s)
+accepts_spare t s l = both (ltb s t.size) _ _ (all t.size)
+  where
+    one : (h : Bool) (limit held : ℕ) → 1 ≤ limit → not (h && leb limit held) ≡ ltb 0 (cond h (limit - held) limit)
+    one true limit held l = grind (arith, nat_tests)
+    one false limit held l = grind (arith, nat_tests)
+
+    least : (a b : ℕ) → (ltb 0 a && ltb 0 b) ≡ ltb 0 (min a b)
+    least a b = grind (arith, nat_tests)
+
+    all : (n : ℕ) → all_below n (λ j. not (hears t s j && is_full t s j)) ≡ ltb 0 (least_below n (room t s) t.limit)
+    all zero = sym (lt-ltb 0 t.limit l)
+    all (suc n) =
+        ap₂ ◌&&◌ (one (hears t s n) t.limit (length (t.waiting s n)) l) (all n) ∙
+        least (room t s n) (least_below n (room t s) t.limit)
+
+    both : (h a : Bool) (x : ℕ) → a ≡ ltb 0 x → (h && a) ≡ ltb 0 (cond h x 0)
+    both true a x e = e
+    both false a x e = refl
+
+pub accepts_none : {B : Type 0} (t : Net B) (s k : ℕ) → 1 ≤ t.limit → k ≡ most_posts t s → k ≡ 0 → accepts t s ≡ false
+accepts_none t s k l e z = accepts_spare t s l ∙ ap (ltb 0) (sym e ∙ z)
+
+pub accepts_some : {B : Type 0} (t : Net B) (s k : ℕ) → 1 ≤ t.limit → k ≡ most_posts t s → (k ≡ 0 → ⊥) → accepts t s ≡ true
+accepts_some t s k l e z = accepts_spare t s l ∙ (ap (ltb 0) (sym e) ∙ lt-ltb 0 k (omega arith))

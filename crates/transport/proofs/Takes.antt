@@ -2,7 +2,7 @@
 use Rattle.std.proofs.Common.{◌≡◌, ℕ, zero, suc, ◌+◌, ◌<◌, ◌≤◌, Bool, true, false, cond, ◌&&◌, eqb, List, [], ◌∷◌, length, drop, is_some, sym, refl, ap, ◌∙◌, ap₂, arith}
 use Rattle.std.proofs.lemmas.List.{drop-drop, drop_all}
 use Rattle.std.proofs.lemmas.Bool.{and_from, and_parts, eq-eqb, eqb-true, cond-true}
-use Rattle.transport.specs.Nets.{Net, first, rest, has, queue, after_take, after_takes}
+use Rattle.transport.specs.Nets.{Net, first, rest, has, queue, oldest, after_take, after_takes}
 use Rattle.transport.proofs.NetLaws.{net_path}
 
 rest_drop : {A : Type 0} (k : ℕ) (xs : List A) → rest (drop k xs) ≡ drop (k + 1) xs
@@ -50,6 +50,10 @@ module _ {B : Type 0} (t : Net B) (s d : ℕ) where
       same true true e xs = refl
       same false c e xs = sym (drop_nil (cond false xs []) k refl)
       same true false e xs = absurd (let z : ◌≡◌ {A = ℕ} 0 1 = cc in omega arith)
+
+  -- what is the oldest after so many takes
+  pub takes_oldest : (k : ℕ) (m : Net B) → m ≡ after_takes t s d k → oldest m s d ≡ first (drop k (queue t s d))
+  takes_oldest k m e = ap (λ m. oldest m s d) e ∙ ap first (takes_queue k)
 
   -- where no more are left, one more take changes nothing
   pub takes_over : (k : ℕ) → length (queue t s d) ≤ k → after_takes t s d (k + 1) ≡ after_takes t s d k

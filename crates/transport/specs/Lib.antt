@@ -4,3 +4,4 @@ pub mod Circles
 pub mod Stored
 pub mod Series
 pub mod Tables
+pub mod Members

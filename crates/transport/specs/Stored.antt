@@ -1,5 +1,6 @@
 -- Frames in cells that held anything before.
-use Rattle.std.specs.Prelude.{Some, None, Option, refl}
+use Rattle.std.specs.Prelude.{Option, refl}
+use Rattle.std.specs.Option.{unwrap_or}
 use Rattle.frame.specs.Rows.{frame_remade}
 use Rattle.frame.specs.declared.Content.TheVariants.{Clock}
 use Rattle.frame.specs.declared.Frame.{Frame}
@@ -10,8 +11,7 @@ abbrev pub idle : {B : Type 0} → Frame B
 idle = record { sender = record { value = 0; ok = refl }; payload = record { clock = record { 0 = 0 }; content = Clock; ok = refl } }
 
 abbrev pub or_idle : {B : Type 0} → Option (Frame B) → Frame B
-or_idle (Some f) = f
-or_idle None = idle
+or_idle found = unwrap_or found idle
 
 -- the frame that a cell holds
 abbrev pub stored : {B R : Type 0} → (R → Option B) → FrameRow R → Frame B

@@ -1,6 +1,7 @@
 -- Tables of what is kept for each ordered pair of up to eight printers.
-use Rattle.std.specs.Prelude.{ℕ, ◌+◌, ◌*◌, List, slice_index}
+use Rattle.std.specs.Prelude.{ℕ, ◌+◌, ◌*◌, slice_index_or}
+use Rattle.transport.specs.declared.pairs.PairTable.{PairTable}
 
--- what a table of eight rows of eight numbers has for sender i and receiver j
-abbrev pub at_pair : List ℕ → ℕ → ℕ → ℕ
-at_pair xs i j = slice_index xs (i * 8 + j)
+-- what a table has for sender i and receiver j; none beyond its last place
+unfoldable pub at_pair : {T : Type 0} → T → PairTable T → ℕ → ℕ → T
+at_pair none t i j = slice_index_or t.places (i * 8 + j) none

@@ -19,9 +19,10 @@ pub fn drain<T: Transport>(t: &mut T, sender: u32, receiver: u32, most: usize) -
     ensures answer { result ≡ min most (length (queue (T.meaning t.old) sender receiver)) }
     ensures after { T.meaning t.new ≡ after_takes (T.meaning t.old) sender receiver result }
 {
-    let mut count = 0;
-    while count < most && take_one(t, sender, receiver) {
-        count += 1;
+    for count in 0..most {
+        if !take_one(t, sender, receiver) {
+            return count;
+        }
     }
-    count
+    most
 }

@@ -3,12 +3,20 @@
 
 mod draining;
 mod faults;
+mod limits;
 mod meaning;
+mod members;
+mod pairs;
+mod places;
 mod series;
 mod storing;
 
 pub use draining::drain;
 pub use faults::{Layer, TransportFault, TransportRefusal};
+pub use limits::fair_limit;
 pub use meaning::Transport;
+pub use members::Members;
+pub use pairs::PairTable;
+pub use places::place_after;
 pub use series::sure_of_posts;
 pub use storing::stored_frame;

@@ -21,8 +21,5 @@ fn idle_frame<B: Body>() -> Frame<B>
 pub fn stored_frame<B: Body>(row: FrameRow<B::Row>) -> Frame<B>
     ensures { result ≡ stored B.remade row }
 {
-    match Frame::from_row(row) {
-        Some(frame) => frame,
-        None => idle_frame(),
-    }
+    Frame::from_row(row).unwrap_or(idle_frame())
 }

@@ -6,5 +6,5 @@ use Rattle.backlog.proofs.holding.reassign_slots.Given as goal
 
 abbrev pub invariant-loop-place : goal.invariant-loop-place
 invariant-loop-place l =
-    Swept no_held (λ i. get_or l.initial.slots i no_held) (λ i. is_between l.last.0 l.sent.0 (number_at l.passed.0 i))
+    Swept no_held (λ i. get_or l.initial.slots i no_held) (λ i. is_between l.last l.sent (number_at l.passed i))
     (assign_to l.assigned) l.slots l.place

@@ -1,5 +1,4 @@
 use Rattle.std.proofs.Common.{◌≡◌, sym, refl, ap, ◌∙◌, subst}
-use Rattle.frame.specs.declared.MessageNumber.{MessageNumber}
 use Rattle.roles.specs.Configurations.{conf_of}
 use Rattle.backlog.specs.Holdings.{holding_of, hold_message}
 use Rattle.table.specs.Printers.{Printer, printer_of, hearing_of}
@@ -29,7 +28,7 @@ is-after : (c : goal.After-hold_message) → after c ≡ held_own c.args.kind c.
 is-after c =
     let t = c.args.table.now in
     printer_path _ _ refl (ap (duty_in t.duty) c.state_made-table.ensures) refl
-    (c.hold_message.ensures ∙ ap (λ (k : MessageNumber). hold_message (holding_of t.backlog) t.me.value k.0 (record { kind = c.args.kind; assigned = t.duty.sequencer })) c.next_number-number.ensures) refl
+    (c.hold_message.ensures ∙ (λ i. hold_message (holding_of t.backlog) t.me.value (c.next_message.ensures.number i).0 (record { kind = c.args.kind; assigned = c.next_message.ensures.assigned i }))) refl
 
 pub invariant_of-table : goal.invariant_of-table
 invariant_of-table c =

@@ -1,25 +1,26 @@
-use Rattle.std.proofs.Common.{ap, ◌∙◌}
-use Rattle.frame.specs.declared.PrinterNumber.{PrinterNumber}
-use Rattle.frame.specs.declared.TicketNumber.{TicketNumber}
+use Rattle.std.proofs.Common.{◌≡◌, Err, refl, ap, ◌∙◌, arith}
+use Rattle.std.proofs.lemmas.Result.{err_from_is_err_and}
 use Rattle.table.specs.Printers.{printer_of}
-use Rattle.printer.specs.Making.{held_own}
-use Rattle.printer.specs.Posts.{posted_at}
-use Rattle.printer.proofs.Holds.{undelivered_still}
+use Rattle.printer.specs.Making.{undelivered, make_refusal, held_own}
+use Rattle.printer.proofs.PostLaws.{refused_unless}
 use Rattle.printer.proofs.making.make.Goals as goal
+
+pub returns-in_err-may_make-clause-answer : goal.returns-in_err-may_make-clause-answer
+returns-in_err-may_make-clause-answer g c =
+    let t = c.args.table.now in
+    let p = err_from_is_err_and c.from_residual.result c.from_residual.ensures.1 in
+    p.1 ∙ (ap Err p.2 ∙ refused_unless t.me.value (make_refusal c.args.kind t.me.value (printer_of t)) _ _ c.in_err-may_make.ensures.answer)
 
 pub hold_own-requires : goal.hold_own-requires
 hold_own-requires g c =
+    let t = c.args.table.now in
+    let q = c.post.new.table in
     let p = c.in_ok-post.ensures in
-    undelivered_still _ _ _ (printer_of c.args.table.now) _ (ap (λ (m : PrinterNumber). m.value) p.me) p.table c.requires.few
+    let same : undelivered q.me.value (printer_of q) ≡ undelivered t.me.value (printer_of t) = λ i. undelivered (p.me i).value (p.table i) in
+    let few = c.in_ok-may_make.ensures.few refl in
+    omega arith
 
-pub returns : goal.returns
-returns g c =
+pub returns-clause-table : goal.returns-clause-table
+returns-clause-table g c =
     let p = c.in_ok-post.ensures in
-    let me = ap (λ (m : PrinterNumber). m.value) p.me in
-    let posted = p.table ∙ ap (λ (k : TicketNumber). posted_at k.0 (printer_of c.args.table.now)) c.requires.own_clock in
-    record {
-      answer = p.answer;
-      table = c.hold_own.ensures.table ∙ (λ i. held_own c.args.kind (me i) (posted i));
-      me = c.hold_own.ensures.me ∙ p.me;
-      net = p.net;
-    }
+    c.hold_own.ensures.table ∙ (λ i. held_own c.args.kind (p.me i).value (p.table i))

@@ -1,4 +1,4 @@
-use Rattle.std.proofs.Common.{◌≡◌, ◌-◌, ◌≤◌, length}
+use Rattle.std.proofs.Common.{◌≡◌, ◌≤◌, length}
 use Rattle.transport.specs.Nets.{queue, after_takes}
 use Rattle.transport.proofs.draining.drain.Given as goal
 
@@ -6,8 +6,4 @@ use Rattle.transport.proofs.draining.drain.Given as goal
 abbrev pub invariant-loop-count : goal.invariant-loop-count
 invariant-loop-count g l =
     (g.T.Transport.meaning l.t ≡ after_takes (g.T.Transport.meaning l.initial.t) l.sender l.receiver l.count) ×
-    (l.count ≤ l.most) ×
     (l.count ≤ length (queue (g.T.Transport.meaning l.initial.t) l.sender l.receiver))
-
-abbrev pub decreases-loop-count : goal.decreases-loop-count
-decreases-loop-count g l = l.most - l.count

@@ -1,6 +1,6 @@
-use Rattle.std.proofs.Common.{ap, ◌∙◌}
-use Rattle.transport.specs.Stored.{or_idle}
+use Rattle.std.proofs.Common.{◌∙◌, ap₂}
+use Rattle.std.specs.Option.{unwrap_or}
 use Rattle.transport.proofs.storing.stored_frame.Goals as goal
 
-pub returns-in-None : goal.returns-in-None
-returns-in-None g c = c.idle_frame.ensures ∙ ap or_idle c.in-None.ensures.value
+pub returns : goal.returns
+returns g c = c.unwrap_or.ensures ∙ ap₂ unwrap_or c.from_row.ensures.value c.idle_frame.ensures

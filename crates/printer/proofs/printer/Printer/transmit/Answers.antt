@@ -1,20 +1,20 @@
-use Rattle.std.proofs.Common.{length, is_ok}
-use Rattle.table.specs.Dues.{due}
+use Rattle.std.proofs.Common.{length, Some, sym, ap, ◌∙◌}
 use Rattle.roles.specs.Nearest.{delay_in}
+use Rattle.table.specs.Desks.{desk, pass_all}
+use Rattle.table.specs.Dues.{due}
+use Rattle.table.specs.declared.Heed.TheVariants.{Clocks}
+use Rattle.printer.specs.Transmitting.{transmitted}
 use Rattle.printer.specs.Views.{number_of, kept_by, desk_of}
-use Rattle.printer.proofs.Steps.{lawful_if, lawful_transmitted}
 use Rattle.printer.proofs.printer.Printer.transmit.Goals as goal
 
-pub returns : goal.returns
-returns g c =
-    let s = c.args.self.now in
-    let n = length c.args.delays.now in
-    let d = desk_of s c.args.list.now c.args.shelf.now in
-    let r = c.transmit_first.ensures in
-    record {
-      answer = r.answer;
-      after = r.after;
-      number = r.number;
-      net = r.net;
-      lawful = lawful_if n (is_ok c.transmit_first.result) d _ _ r.after (lawful_transmitted n (delay_in c.args.delays.now) (number_of s) d (due n (number_of s) (kept_by s)));
-    }
+pub returns-in_ok-issue-in-Some-Ticket-clause-after : goal.returns-in_ok-issue-in-Some-Ticket-clause-after
+returns-in_ok-issue-in-Some-Ticket-clause-after g c =
+    let a = c.args in
+    let n = length a.delays.now.row.now in
+    let delay = delay_in a.delays.now.row.now in
+    let p = c.in_ok-issue-in-Some-Ticket.ensures in
+    let due_is = ap Some (sym c.in-Some-Ticket.field-0-is) ∙ c.in-Some-Ticket.ensures.answer in
+    c.pass_on.ensures.after ∙
+    ((λ i. pass_all Clocks n delay (p.me i).value (desk (p.table i) a.list.now a.shelf.now)) ∙
+    ap (transmitted n delay (number_of a.self.now) (desk_of a.self.now a.list.now a.shelf.now))
+    (due_is ∙ (λ i. due (c.count.ensures i) (number_of a.self.now) (kept_by a.self.now))))

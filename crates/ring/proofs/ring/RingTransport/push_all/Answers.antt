@@ -1,10 +1,11 @@
 use Rattle.std.proofs.Common.{◌≡◌, ◌<◌, vec_items, sym, ap, ◌∙◌, subst, arith}
 use Rattle.transport.specs.Nets.{accepts, after_post, hears}
-use Rattle.transport.specs.Stored.{stored, or_idle}
+use Rattle.transport.specs.Stored.{stored}
 use Rattle.transport.proofs.NetLaws.{accepts_below}
+use Rattle.transport.proofs.StoredLaws.{stored_from}
 use Rattle.ring.specs.Meaning.{ring_meaning}
 use Rattle.ring.specs.Rings.{pushed}
-use Rattle.ring.proofs.Steps.{waits_length}
+use Rattle.ring.proofs.Steps.{ring_waits}
 use Rattle.ring.proofs.Posts.{part_posted, part_none, part_all, part_skip, part_step, part_room, hears_reaches}
 use Rattle.ring.proofs.ring.RingTransport.push_all.Goals as goal
 use Rattle.ring.proofs.ring.RingTransport.push_all.Goals.{then-hears, else-hears}
@@ -21,14 +22,16 @@ push-requires g c =
     let f = c.args.frame in
     let s = f.sender.value in
     let j = c.loop-receiver.receiver in
-    let i : ring_meaning rem u ≡ part_posted m f j = c.loop-receiver.invariant ∙ ap (λ x. part_posted m x j) (ap or_idle c.to_row-row.ensures.again) in
+    let o = stored_from rem c.to_row-row.result f c.to_row-row.ensures.again in
+    let i : ring_meaning rem u ≡ part_posted m f j = c.loop-receiver.invariant ∙ ap (λ x. part_posted m x j) o in
     let b = accepts_below m s c.requires in
     let z = ap (λ x. x.size) i in
-    let p : s < u.size = omega arith in
+    let p : s < u.members.size = omega arith in
     let h = sym c.if-hears.ensures in
-    let q = hears_reaches rem u.size u.limit u.flags u.starts u.helds (vec_items u.cells) s j p h in
-    let r = part_room m f j (ring_meaning rem u) i c.loop-receiver-test.true h c.requires in
-    let l = waits_length rem u.size u.limit u.flags u.starts u.helds (vec_items u.cells) s j q in
+    let q = hears_reaches u.members s j p h in
+    let k : j < m.size = omega arith in
+    let r = part_room m f j (ring_meaning rem u) i k h c.requires in
+    let l = ring_waits rem u.members u.limit u.circles (vec_items u.cells) s j q in
     record { reached = q; has_room = subst (λ x. x < u.limit) l r }
 
 pub loop-receiver-preserved : goal.loop-receiver-preserved
@@ -38,7 +41,7 @@ loop-receiver-preserved g c =
     let f = stored rem c.to_row-row.result in
     let s = c.args.frame.sender.value in
     let j = c.loop-receiver.receiver in
-    let o : s ≡ f.sender.value = ap (λ x. x.sender.value) (sym (ap or_idle c.to_row-row.ensures.again)) in
+    let o : s ≡ f.sender.value = ap (λ x. x.sender.value) (sym (stored_from rem c.to_row-row.result c.args.frame c.to_row-row.ensures.again)) in
     let e = ap (λ x. hears x s j) c.loop-receiver.invariant in
     elim c.if-hears.branch [
       | then-hears w ↦
@@ -57,6 +60,6 @@ pub returns : goal.returns
 returns g c =
     let m = ring_meaning g.B.Body.remade c.args.self.now in
     let f = stored g.B.Body.remade c.to_row-row.result in
-    let e : c.loop-receiver.receiver ≡ c.args.self.now.size = omega arith in
+    let e : c.loop-receiver.receiver ≡ c.args.self.now.members.size = omega arith in
     c.loop-receiver.invariant ∙
-    (ap (part_posted m f) e ∙ (part_all m f ∙ ap (after_post m) (ap or_idle c.to_row-row.ensures.again)))
+    (ap (part_posted m f) e ∙ (part_all m f ∙ ap (after_post m) (stored_from g.B.Body.remade c.to_row-row.result c.args.frame c.to_row-row.ensures.again)))

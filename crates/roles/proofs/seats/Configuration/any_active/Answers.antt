@@ -1,10 +1,10 @@
-use Rattle.std.proofs.Common.{sym, rules}
-use Rattle.roles.proofs.Functions.{any_below_at, none_below_more}
+use Rattle.std.proofs.Common.{refl, rules}
+use borrow.Author.Tests.{tests}
+use Rattle.roles.specs.Configurations.{conf_of, is_active}
+use Rattle.roles.proofs.Ranges.{any_below_range}
 use Rattle.roles.proofs.seats.Configuration.any_active.Goals as goal
 
-pub returns-then-is_active : goal.returns-then-is_active
-returns-then-is_active c =
-    sym (any_below_at _ _ c.loop-printer.printer c.loop-printer-test.true (sym c.if-is_active.ensures))
-
-pub loop-printer-preserved : goal.loop-printer-preserved
-loop-printer-preserved c = search (rules, none_below_more)
+pub returns : goal.returns
+returns c =
+    any_below_range c.args.count.value (is_active (conf_of c.args.self.now)) _ _ _ _ c.any.ensures.ran refl refl
+    (λ x b q k. search (rules, tests))

@@ -5,9 +5,6 @@ use Rattle.roles.proofs.seats.Configuration.record.Goals as goal
 
 -- one who is removed keeps the role number, so the bounds stay
 pub promote-requires : goal.promote-requires
-promote-requires c = record {
-  count_bound = c.requires.count_bound;
-  role_bound = λ a.
-      let e = ap (λ (d : Conf). (d a).role.0) c.remove.ensures ∙ without_role (conf_of c.args.self.now) c.args.printer a in
-      omega (arith, c.requires.role_bound a);
-}
+promote-requires c a =
+    let e = ap (λ (d : Conf). (d a).role.0) c.remove.ensures ∙ without_role (conf_of c.args.self.now) c.args.printer.value a in
+    omega (arith, c.requires.role_bound a)

@@ -1,13 +1,29 @@
 use Rattle.std.proofs.Common.{sym}
-use Rattle.std.proofs.lemmas.Bool.{cond-false}
-use Rattle.transport.proofs.NetLaws.{post_refused}
+use Rattle.std.proofs.lemmas.Bool.{cond-true, cond-false}
+use Rattle.transport.proofs.NetLaws.{post_refused, accepts_none, accepts_some}
 use Rattle.sender_log.specs.Meaning.{log_meaning}
 use Rattle.sender_log.proofs.carrying.LogTransportTransport.post.Goals as goal
 
-pub returns-then-not-has_room : goal.returns-then-not-has_room
-returns-then-not-has_room g c =
-    let refused = sym c.if-not-has_room.ensures in
+pub returns-then-posts_left-eq0 : goal.returns-then-posts_left-eq0
+returns-then-posts_left-eq0 g c =
+    let t = c.args.self.now in
+    let m = log_meaning g.B.Body.remade t in
+    let full = accepts_none m c.args.sender.value _ t.limit_ok c.posts_left.ensures c.if-posts_left-eq0.true in
     record {
-      answer = sym (cond-false _ _ _ refused);
-      after = post_refused (log_meaning g.B.Body.remade c.args.self.now) (record { sender = c.args.sender; payload = c.args.payload }) refused;
+      answer = sym (cond-false _ _ _ full);
+      after = post_refused m (record { sender = c.args.sender; payload = c.args.payload }) full;
+    }
+
+pub append-requires : goal.append-requires
+append-requires g c =
+    let t = c.args.self.now in
+    accepts_some (log_meaning g.B.Body.remade t) c.args.sender.value _ t.limit_ok c.posts_left.ensures c.if-posts_left-eq0.false
+
+pub returns : goal.returns
+returns g c =
+    let t = c.args.self.now in
+    let fits = accepts_some (log_meaning g.B.Body.remade t) c.args.sender.value _ t.limit_ok c.posts_left.ensures c.if-posts_left-eq0.false in
+    record {
+      answer = sym (cond-true _ _ _ fits);
+      after = c.append.ensures;
     }

@@ -1,5 +1,5 @@
-use Rattle.std.proofs.Common.{◌≡◌, ◌+◌, length, sym, refl, subst, arith}
-use Rattle.roles.specs.Configurations.{conf_of}
+use Rattle.std.proofs.Common.{◌≡◌, ◌+◌, length, sym, refl, ap, ◌∙◌, subst, arith}
+use Rattle.roles.specs.Configurations.{conf_of, changed}
 use Rattle.roles.specs.Nearest.{delay_in}
 use Rattle.backlog.specs.Holdings.{holding_of}
 use Rattle.table.specs.Passing.{passed_on}
@@ -19,20 +19,21 @@ after c = record {
 }
 
 is-after : (c : goal.After-rule) → after c ≡
-    passed_on c.args.count (delay_in c.args.delays.now) c.args.self.now.me.value (printer_of c.args.self.now) c.args.ticket
+    passed_on (length c.args.delays.now.row.now) (delay_in c.args.delays.now.row.now) c.args.self.now.me.value (printer_of c.args.self.now) c.args.ticket
 is-after c =
     let t = c.args.self.now in
-    delivered c.args.count (delay_in c.args.delays.now) t.me.value (printer_of t) c.args.ticket
+    let recorded = c.record.ensures ∙ ap (λ m. changed m (conf_of t.configuration) c.args.kind c.args.ticket.sender) c.count.ensures in
+    delivered (length c.args.delays.now.row.now) (delay_in c.args.delays.now.row.now) t.me.value (printer_of t) c.args.ticket
     c.args.kind (conf_of c.record.new.self) c.record-2.new.self c.rule.new.self
-    (holding_of c.pass_first.new.self) _ (length c.args.delays.now)
-    c.requires.kind_value c.requires.delays_len c.record.ensures c.record-2.ensures c.pass_first.ensures
-    refl c.rule.ensures
+    (holding_of c.pass_first.new.self) _ (length c.args.delays.now.row.now)
+    c.requires.kind_value refl recorded c.record-2.ensures c.pass_first.ensures
+    c.messages_held-undelivered.ensures c.rule.ensures
 
 pub invariant_of-self : goal.invariant_of-self
 invariant_of-self c =
     let t = c.args.self.now in
     let s = subst (Sound t.me.value) (sym (is-after c))
-    (passed_sound c.args.count (delay_in c.args.delays.now) t.me.value (printer_of t) c.args.ticket c.requires.count_bound (number_small t) (sound t)) in
+    (passed_sound (length c.args.delays.now.row.now) (delay_in c.args.delays.now.row.now) t.me.value (printer_of t) c.args.ticket c.args.delays.now.few (number_small t) (sound t)) in
     record {
       length_ok = omega arith;
       sequencer_ok = s.sequencer;

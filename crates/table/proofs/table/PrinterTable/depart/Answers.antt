@@ -1,5 +1,6 @@
-use Rattle.std.proofs.Common.{◌≡◌, ◌+◌, Bool, not, ◌&&◌, length, sym, refl, ap, ◌∙◌, subst, arith}
-use Rattle.roles.specs.Configurations.{conf_of, is_active}
+use Rattle.std.proofs.Common.{◌≡◌, ◌+◌, length, sym, refl, ap, ◌∙◌, subst, arith}
+use Rattle.roles.specs.Configurations.{conf_of, changed}
+use Rattle.roles.specs.declared.RecordKind.TheVariants.{Gone}
 use Rattle.roles.specs.Nearest.{delay_in}
 use Rattle.backlog.specs.Holdings.{holding_of}
 use Rattle.table.specs.Departures.{bereft}
@@ -19,21 +20,21 @@ after c = record {
 }
 
 is-after : (c : goal.After-rule) → after c ≡
-    bereft (length c.args.delays.now) (delay_in c.args.delays.now) c.args.self.now.me.value (printer_of c.args.self.now) c.args.leaver
+    bereft (length c.args.delays.now.row.now) (delay_in c.args.delays.now.row.now) c.args.self.now.me.value (printer_of c.args.self.now) c.args.leaver.value
 is-after c =
     let t = c.args.self.now in
-    let won = c.is_promoted-promoted.ensures ∙
-    ap (λ (b : Bool). is_active (conf_of c.record.new.self) t.me.value && not b) c.is_active-was_active.ensures in
-    bereaved (length c.args.delays.now) (delay_in c.args.delays.now) t.me.value (printer_of t) c.args.leaver
-    (conf_of c.record.new.self) c.is_promoted-promoted.result c.pair_of-own.result (holding_of c.drop_messages.new.self)
+    let n = length c.args.delays.now.row.now in
+    let k = c.record.ensures ∙ ap (λ m. changed m (conf_of t.configuration) Gone c.args.leaver.value) c.count.ensures in
+    bereaved n (delay_in c.args.delays.now.row.now) t.me.value (printer_of t) c.args.leaver.value
+    c.is_active-was_active.result (conf_of c.record.new.self) c.promotion-promotion.result (holding_of c.drop_messages.new.self)
     (holding_of c.take_over.new.backlog) c.promote.new.self c.rule.new.self _
-    c.record.ensures won c.pair_of-own.ensures c.drop_messages.ensures c.take_over.ensures c.promote.ensures refl c.rule.ensures
+    c.is_active-was_active.ensures k c.promotion-promotion.ensures c.drop_messages.ensures c.take_over.ensures c.promote.ensures c.messages_held-undelivered.ensures c.rule.ensures
 
 pub invariant_of-self : goal.invariant_of-self
 invariant_of-self c =
     let t = c.args.self.now in
     let s = subst (Sound t.me.value) (sym (is-after c))
-    (bereft_sound (length c.args.delays.now) (delay_in c.args.delays.now) t.me.value (printer_of t) c.args.leaver c.requires.delays_len_bound (number_small t) (sound t)) in
+    (bereft_sound (length c.args.delays.now.row.now) (delay_in c.args.delays.now.row.now) t.me.value (printer_of t) c.args.leaver.value c.args.delays.now.few (number_small t) (sound t)) in
     record {
       length_ok = omega arith;
       sequencer_ok = s.sequencer;

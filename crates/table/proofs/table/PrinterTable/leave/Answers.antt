@@ -13,30 +13,26 @@ use Rattle.table.proofs.table.PrinterTable.leave.Goals as goal
 
 pub write_record-requires : goal.write_record-requires
 write_record-requires g c =
-    let room = room_left Nothing (length c.args.delays.now) (delay_in c.args.delays.now) c.args.self.now.me.value
+    let room = room_left Nothing (length c.args.delays.now.row.now) (delay_in c.args.delays.now.row.now) c.args.self.now.me.value
     (desk (printer_of c.args.self.now) c.args.list.now c.args.shelf.now) _ (length c.args.list.now) c.pass_on.ensures.after c.requires.room in
     omega arith
 
 pub depart-requires : goal.depart-requires
 depart-requires g c =
-    let room = room_left Nothing (length c.args.delays.now) (delay_in c.args.delays.now) c.args.self.now.me.value
+    let room = room_left Nothing (length c.args.delays.now.row.now) (delay_in c.args.delays.now.row.now) c.args.self.now.me.value
     (desk (printer_of c.args.self.now) c.args.list.now c.args.shelf.now) _ (length c.args.list.now) c.pass_on.ensures.after c.requires.room in
-    record {
-      delays_len_bound = c.requires.delays_len_bound;
-      leaver_bound = c.requires.leaver_bound;
-      length_bound = omega arith;
-    }
+    omega arith
 
 pub returns : goal.returns
 returns g c =
-    let n = length c.args.delays.now in
+    let n = length c.args.delays.now.row.now in
     let d = desk (printer_of c.args.self.now) c.args.list.now c.args.shelf.now in
-    let a = left_after n (delay_in c.args.delays.now) c.args.self.now.me.value c.pass_on.new.self.me.value
-    d (desk (printer_of c.pass_on.new.self) c.pass_on.new.list c.args.shelf.now) c.args.leaver _ _
+    let a = left_after n (delay_in c.args.delays.now.row.now) c.args.self.now.me.value c.pass_on.new.self.me.value
+    d (desk (printer_of c.pass_on.new.self) c.pass_on.new.list c.args.shelf.now) c.args.leaver.value _ _
     (ap (λ (p : PrinterNumber). p.value) c.pass_on.ensures.me) c.pass_on.ensures.after c.depart.ensures.table c.write_record.ensures in
     record {
       after = a;
       me = c.depart.ensures.me ∙ c.pass_on.ensures.me;
-      grows = subst (Grown d) (sym a) (grown_left n _ _ d c.args.leaver);
-      given = λ f. subst (Given n) (sym a) (given_left n _ _ d c.args.leaver c.requires.room f);
+      grows = subst (Grown d) (sym a) (grown_left n _ _ d c.args.leaver.value);
+      given = λ f. subst (Given n) (sym a) (given_left n _ _ d c.args.leaver.value c.requires.room f);
     }

@@ -1,0 +1,45 @@
+// What waits for one pair.
+ghost use Rattle.std.specs.Prelude.{◌≡◌, ◌≤◌, length};
+ghost use Rattle.transport.specs.Nets.{oldest, after_take};
+ghost use Rattle.sender_log.specs.Meaning.{log_meaning};
+
+use crate::log::LogTransport;
+use body::Body;
+use frame::Frame;
+use transport::stored_frame;
+
+impl<B: Body> LogTransport<B> {
+    // How many frames wait for a pair.
+    pub(crate) fn waits(&self, sender: u32, receiver: u32) -> usize
+        ensures value { result ≡ length ((log_meaning B.remade self.now).waiting sender receiver) }
+        ensures within { result ≤ self.now.limit }
+    {
+        if receiver == sender || !self.members.reaches(sender, receiver) {
+            return 0;
+        }
+        self.behinds.get(sender, receiver)
+    }
+
+    // The oldest frame of a pair.
+    pub(crate) fn oldest_of(&self, sender: u32, receiver: u32) -> Option<Frame<B>>
+        ensures { result ≡ oldest (log_meaning B.remade self.now) sender receiver }
+    {
+        let behind = self.waits(sender, receiver);
+        if behind == 0 {
+            return None;
+        }
+        let at = self.cell_index(sender, self.cursor(sender, behind));
+        Some(stored_frame::<B>(self.cells[at]))
+    }
+
+    // Removes the oldest frame of a pair: its receiver is one frame nearer to the end of the log.
+    pub(crate) fn drop_oldest(&mut self, sender: u32, receiver: u32)
+        ensures { log_meaning B.remade self.new ≡ after_take (log_meaning B.remade self.old) sender receiver }
+    {
+        let behind = self.waits(sender, receiver);
+        if behind == 0 {
+            return;
+        }
+        self.behinds.set(sender, receiver, behind - 1);
+    }
+}
