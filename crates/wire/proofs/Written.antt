@@ -43,3 +43,6 @@ pub front_all : (ws e : List ℕ) (n : ℕ) → n ≡ length ws → front ws e n
 front_all ws e n h =
     let l : 4 * n ≡ length (words_bytes ws) = omega (arith, length_words_bytes ws) in
     ap₂ (λ xs k. words_bytes xs ++ drop k e) (take_all n ws (omega arith)) l
+
+-- what `put_words` keeps, from its start to its end
+pub ruleset fronts = (length_words_bytes, front_none, front_more, front_all)
