@@ -1,6 +1,5 @@
 -- The words of a frame are in range, and words in range are those of a frame.
-use Rattle.std.proofs.Common.{◌≡◌, ℕ, suc, ◌≤◌, Bool, true, ◌&&◌, List, [], ◌∷◌, ◌++◌, length, Some, Option, sym, refl, ap, ◌∙◌, subst, arith}
-use Rattle.std.proofs.lemmas.List.{nil_from_length}
+use Rattle.std.proofs.Common.{◌≡◌, ℕ, suc, ◌≤◌, Bool, true, ◌&&◌, List, [], ◌∷◌, ◌++◌, length, Some, Option, refl, ap, ◌∙◌, arith}
 use Rattle.std.proofs.lemmas.Bool.Decides.{nat_tests}
 use Rattle.body.specs.Words.{in_order, is_word}
 use Rattle.frame.specs.Ranges.{is_printer, payload_ok}
@@ -15,7 +14,6 @@ use Rattle.frame.specs.declared.FrameKind.TheVariants as kinds
 use Rattle.frame.proofs.Parts.{frame_of_self}
 use Rattle.wire.specs.Layout.{kind_count, kind_allows, content_words, rest_words}
 use Rattle.wire.specs.Rebuilt.{content_rebuilt, frame_rebuilt}
-use Rattle.wire.proofs.Fronts.{two_all, three_first, three_all, four_all, behind, length_behind}
 
 -- a body's words behind the others are judged as the body's alone
 pub body_order : (allows : List ℕ → ℕ → Bool) (s k n q r : ℕ) (vs before : List ℕ) →
@@ -98,46 +96,36 @@ module _ {B : Type 0} (words : B → List ℕ) (allows : List ℕ → ℕ → Bo
       let f = with_content s k (Data (record { 0 = n }) q (record { 0 = r }) m.0) t.0 (t.1 m.0) in
       (f.0, refl, ap (λ xs. s ∷ (k ∷ (n ∷ (q ∷ (r ∷ xs))))) m.1)
 
-  up_spelled : (s k n q r : ℕ) → Ranged kinds.Up (s ∷ k ∷ n ∷ q ∷ r ∷ []) → Spelled kinds.Up (s ∷ k ∷ n ∷ q ∷ r ∷ [])
-  up_spelled s k n q r h =
-      with_content s k (Up (record { 0 = n }) q (record { 0 = r })) (grind (arith, nat_tests)) (grind (arith, nat_tests))
-
-  down_spelled : (s k n q r : ℕ) → Ranged kinds.Down (s ∷ k ∷ n ∷ q ∷ r ∷ []) → Spelled kinds.Down (s ∷ k ∷ n ∷ q ∷ r ∷ [])
-  down_spelled s k n q r h =
-      with_content s k (Down (record { 0 = n }) q (record { 0 = r })) (grind (arith, nat_tests)) (grind (arith, nat_tests))
-
-  ticket_spelled : (s k t n : ℕ) → Ranged kinds.Ticket (s ∷ k ∷ t ∷ n ∷ []) → Spelled kinds.Ticket (s ∷ k ∷ t ∷ n ∷ [])
-  ticket_spelled s k t n h = with_content s k (Ticket t (record { 0 = n })) (grind (arith, nat_tests)) (grind (arith, nat_tests))
-
-  reassign_spelled : (s k l c q r : ℕ) → Ranged kinds.Reassign (s ∷ k ∷ l ∷ c ∷ q ∷ r ∷ []) →
-      Spelled kinds.Reassign (s ∷ k ∷ l ∷ c ∷ q ∷ r ∷ [])
-  reassign_spelled s k l c q r h =
-      with_content s k (Reassign (record { 0 = l }) (record { 0 = c }) q (record { 0 = r })) (grind (arith, nat_tests)) (grind (arith, nat_tests))
-
-  clock_spelled : (s k : ℕ) → Ranged kinds.Clock (s ∷ k ∷ []) → Spelled kinds.Clock (s ∷ k ∷ [])
-  clock_spelled s k h = with_content s k Clock (grind (arith, nat_tests)) (grind (arith, nat_tests))
-
-  -- from the words by name to the words as a list
-  respelled : (kind : FrameKind) {ws vs : List ℕ} → ws ≡ vs → (Ranged kind vs → Spelled kind vs) → Ranged kind ws → Spelled kind ws
-  respelled kind e f h =
-      subst (λ xs. Spelled kind xs) (sym e) (f (subst (λ xs. Ranged kind xs) e h))
-
   module _ (law : (ws : List ℕ) → length ws ≡ count → in_order allows [] ws ≡ true → (b : B) × (words b ≡ ws)) where
     content_spelled : (kind : FrameKind) (s k : ℕ) (xs : List ℕ) → Ranged kind (s ∷ k ∷ xs) →
         suc (suc (length xs)) ≡ kind_count count kind → Spelled kind (s ∷ k ∷ xs)
-    content_spelled kinds.Data s k xs h l =
-        respelled kinds.Data (ap (λ ys. s ∷ (k ∷ ys)) (three_first xs (omega arith)))
-        (λ o. data_spelled law s k _ _ _ (behind 3 xs) o (length_behind 3 xs ∙ omega arith)) h
-    content_spelled kinds.Up s k xs h l =
-        respelled kinds.Up (ap (λ ys. s ∷ (k ∷ ys)) (three_all xs (omega arith))) (up_spelled s k _ _ _) h
-    content_spelled kinds.Down s k xs h l =
-        respelled kinds.Down (ap (λ ys. s ∷ (k ∷ ys)) (three_all xs (omega arith))) (down_spelled s k _ _ _) h
-    content_spelled kinds.Ticket s k xs h l =
-        respelled kinds.Ticket (ap (λ ys. s ∷ (k ∷ ys)) (two_all xs (omega arith))) (ticket_spelled s k _ _) h
-    content_spelled kinds.Reassign s k xs h l =
-        respelled kinds.Reassign (ap (λ ys. s ∷ (k ∷ ys)) (four_all xs (omega arith))) (reassign_spelled s k _ _ _ _) h
-    content_spelled kinds.Clock s k xs h l =
-        respelled kinds.Clock (ap (λ ys. s ∷ (k ∷ ys)) (nil_from_length xs (omega arith))) (clock_spelled s k) h
+    content_spelled kinds.Data s k [] h l = absurd (omega arith)
+    content_spelled kinds.Data s k (t ∷ []) h l = absurd (omega arith)
+    content_spelled kinds.Data s k (t ∷ u ∷ []) h l = absurd (omega arith)
+    content_spelled kinds.Data s k (n ∷ q ∷ r ∷ vs) h l = data_spelled law s k n q r vs h (omega arith)
+    content_spelled kinds.Up s k [] h l = absurd (omega arith)
+    content_spelled kinds.Up s k (t ∷ []) h l = absurd (omega arith)
+    content_spelled kinds.Up s k (t ∷ u ∷ []) h l = absurd (omega arith)
+    content_spelled kinds.Up s k (n ∷ q ∷ r ∷ []) h l = with_content s k (Up (record { 0 = n }) q (record { 0 = r })) (grind (arith, nat_tests)) (grind (arith, nat_tests))
+    content_spelled kinds.Up s k (t ∷ u ∷ v ∷ w ∷ xs) h l = absurd (omega arith)
+    content_spelled kinds.Down s k [] h l = absurd (omega arith)
+    content_spelled kinds.Down s k (t ∷ []) h l = absurd (omega arith)
+    content_spelled kinds.Down s k (t ∷ u ∷ []) h l = absurd (omega arith)
+    content_spelled kinds.Down s k (n ∷ q ∷ r ∷ []) h l = with_content s k (Down (record { 0 = n }) q (record { 0 = r })) (grind (arith, nat_tests)) (grind (arith, nat_tests))
+    content_spelled kinds.Down s k (t ∷ u ∷ v ∷ w ∷ xs) h l = absurd (omega arith)
+    content_spelled kinds.Ticket s k [] h l = absurd (omega arith)
+    content_spelled kinds.Ticket s k (t ∷ []) h l = absurd (omega arith)
+    content_spelled kinds.Ticket s k (t ∷ n ∷ []) h l = with_content s k (Ticket t (record { 0 = n })) (grind (arith, nat_tests)) (grind (arith, nat_tests))
+    content_spelled kinds.Ticket s k (t ∷ u ∷ v ∷ xs) h l = absurd (omega arith)
+    content_spelled kinds.Reassign s k [] h l = absurd (omega arith)
+    content_spelled kinds.Reassign s k (t ∷ []) h l = absurd (omega arith)
+    content_spelled kinds.Reassign s k (t ∷ u ∷ []) h l = absurd (omega arith)
+    content_spelled kinds.Reassign s k (t ∷ u ∷ v ∷ []) h l = absurd (omega arith)
+    content_spelled kinds.Reassign s k (n ∷ c ∷ q ∷ r ∷ []) h l =
+        with_content s k (Reassign (record { 0 = n }) (record { 0 = c }) q (record { 0 = r })) (grind (arith, nat_tests)) (grind (arith, nat_tests))
+    content_spelled kinds.Reassign s k (t ∷ u ∷ v ∷ w ∷ x ∷ xs) h l = absurd (omega arith)
+    content_spelled kinds.Clock s k [] h l = with_content s k Clock (grind (arith, nat_tests)) (grind (arith, nat_tests))
+    content_spelled kinds.Clock s k (t ∷ xs) h l = absurd (omega arith)
 
     at_least_two : (kind : FrameKind) → 2 ≤ kind_count count kind
     at_least_two kinds.Data = omega arith

@@ -1,4 +1,3 @@
-pub mod Fronts
 pub mod WordBytes
 pub mod Scans
 pub mod FrameWords

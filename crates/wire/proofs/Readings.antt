@@ -1,8 +1,7 @@
 -- What is read of bytes is the frame that they were written of.
-use Rattle.std.proofs.Common.{◌≡◌, ℕ, suc, ◌+◌, ◌/◌, ◌%◌, ◌<◌, ◌≤◌, Bool, true, false, cond, leb, List, [], ◌∷◌, ◌++◌, length, take, drop, IfOk, Some, None, Ok, Err, Option, Result, sym, refl, ap, ◌∙◌, subst, ap₂, arith}
+use Rattle.std.proofs.Common.{◌≡◌, ℕ, suc, ◌+◌, ◌/◌, ◌%◌, ◌<◌, ◌≤◌, Bool, true, cond, leb, List, [], ◌∷◌, ◌++◌, length, take, drop, IfOk, Some, None, Ok, Err, Option, Result, sym, refl, ap, ◌∙◌, subst, ap₂, arith}
 use Rattle.std.specs.Option.{IsSome}
 use Rattle.std.proofs.lemmas.List.{get_or-drop, take_at}
-use Rattle.std.proofs.lemmas.Bool.{leb-true}
 use Rattle.std.proofs.lemmas.Bool.Decides.{nat_tests}
 use Rattle.body.specs.Words.{in_order}
 use Rattle.body.specs.declared.WireFault.{WireFault}
@@ -18,7 +17,6 @@ use Rattle.wire.specs.Reading.{words_on, words_read, words_by_kind, behind_kind,
 use Rattle.wire.specs.Filling.{RestReads}
 use Rattle.wire.proofs.WordBytes.{Bytes, bytes_again, four_small}
 use Rattle.wire.proofs.Scans.{scan_read, scan_written}
-use Rattle.wire.proofs.Written.{ok_same}
 use Rattle.wire.proofs.FrameWords.{frame_ranged, frame_long, frame_rebuilds, frame_spelled}
 
 pub bytes_drop : (n : ℕ) (bs : List ℕ) → Bytes bs → Bytes (drop n bs)
@@ -40,10 +38,7 @@ kind_number_named w k e = grind (arith, nat_tests)
 
 -- what was found at the front
 pub word_found : (bs : List ℕ) (w : ℕ) → Some w ≡ cond (leb 4 (length bs)) (Some (word_at bs 0)) None → (4 ≤ length bs) × (w ≡ word_at bs 0)
-word_found bs w e = go (leb 4 (length bs)) refl e where
-  go : (t : Bool) → leb 4 (length bs) ≡ t → Some w ≡ cond t (Some (word_at bs 0)) None → (4 ≤ length bs) × (w ≡ word_at bs 0)
-  go true p q = (leb-true 4 (length bs) p, (cc))
-  go false p q = absurd (let z : ◌≡◌ {A = ℕ} 0 1 = cc in omega arith)
+word_found bs w e = (grind (arith, nat_tests), grind (arith, nat_tests))
 
 -- a kind's number is a word
 kind_word : (k : FrameKind) →
@@ -61,23 +56,15 @@ module _ {B : Type 0} (words : B → List ℕ) (allows : List ℕ → ℕ → Bo
     (written : (ws : List ℕ) → length ws ≡ count → in_order allows [] ws ≡ true → (b : B) × (words b ≡ ws))
     (rebuilding : (b : B) → rebuilt (words b) ≡ Some b) where
   -- words that were read make a frame
-  pub words_rebuild : (kind : FrameKind) (bs ws : List ℕ) → Bytes bs →
-      words_on (kind_allows allows kind) (kind_count count kind) [] bs ≡ Ok ws →
-      (f : Frame B) × (kind_of f.payload.content ≡ kind) × (rest_words words f ≡ ws) × (frame_rebuilt rebuilt kind ws ≡ Some f)
-  words_rebuild kind bs ws small e =
-      let m = scan_read (kind_allows allows kind) (kind_count count kind) bs [] ws small e in
-      let t = frame_spelled words allows count written kind m.vs m.ranged (omega (arith, m.long)) in
-      let q : rest_words words t.0 ≡ ws = t.2 ∙ sym m.all in
-      let r = frame_rebuilds words allows count rebuilt rebuilding t.0 in
-      (t.0, t.1, q, ap₂ (λ k xs. frame_rebuilt rebuilt k xs) (sym t.1) (sym q) ∙ r)
-
-  -- the frame that is rebuilt from the words that were read
   rest_made : (kind : FrameKind) (bs ws : List ℕ) (o : Option (Frame B)) → Bytes bs →
       words_on (kind_allows allows kind) (kind_count count kind) [] (drop 4 bs) ≡ Ok ws → o ≡ frame_rebuilt rebuilt kind ws →
       (f : Frame B) × (o ≡ Some f) × RestReads words allows count kind bs (Ok f)
   rest_made kind bs ws o small e q =
-      let m = words_rebuild kind (drop 4 bs) ws (bytes_drop 4 bs small) e in
-      (m.0, q ∙ m.3, (m.1, e ∙ ap Ok (sym m.2)))
+      let m = scan_read (kind_allows allows kind) (kind_count count kind) (drop 4 bs) [] ws (bytes_drop 4 bs small) e in
+      let t = frame_spelled words allows count written kind m.vs m.ranged (omega (arith, m.long)) in
+      let p : ws ≡ rest_words words t.0 = m.all ∙ sym t.2 in
+      let r = ap₂ (λ k xs. frame_rebuilt rebuilt k xs) (sym t.1) p ∙ frame_rebuilds words allows count rebuilt rebuilding t.0 in
+      (t.0, q ∙ r, (t.1, e ∙ ap Ok p))
 
   -- there is one
   pub rest_there : (kind : FrameKind) (bs ws : List ℕ) (o : Option (Frame B)) → Bytes bs →
@@ -119,24 +106,22 @@ module _ {B : Type 0} (words : B → List ℕ) (allows : List ℕ → ℕ → Bo
   rest_exact a b c d bs ws kind small n (Ok vs) e h =
       let m = scan_read (kind_allows allows kind) (kind_count count kind) bs [] vs (λ i. small (suc (suc (suc (suc i))))) e in
       let q : kind_number kind ∷ vs ≡ ws = cc in
-      let t : word_bytes (kind_number kind) ≡ a ∷ (b ∷ (c ∷ (d ∷ []))) =
-      ap word_bytes n ∙ bytes_again a b c d (four_small a b c d bs small) in
-      ap (λ xs. a ∷ (b ∷ (c ∷ (d ∷ xs)))) (m.bytes ∙ ap words_bytes (sym m.all)) ∙
-      (ap (λ xs. xs ++ words_bytes vs) (sym t) ∙ ap words_bytes q)
-  rest_exact a b c d bs ws kind small n (Err x) e h = absurd (let z : ◌≡◌ {A = ℕ} 0 1 = cc in omega arith)
+      let t = ap word_bytes n ∙ bytes_again a b c d (four_small a b c d bs small) in
+      grind arith
+  rest_exact a b c d bs ws kind small n (Err x) e h = grind arith
 
   kind_exact : (a b c d : ℕ) (bs ws : List ℕ) → Bytes (a ∷ b ∷ c ∷ d ∷ bs) → (o : Option FrameKind) → kind_named (word_of a b c d) ≡ o →
       words_by_kind allows count o bs ≡ Ok ws → a ∷ b ∷ c ∷ d ∷ bs ≡ words_bytes ws
   kind_exact a b c d bs ws small (Some kind) e h =
       rest_exact a b c d bs ws kind small (kind_number_named (word_of a b c d) kind e)
       (words_on (kind_allows allows kind) (kind_count count kind) [] bs) refl h
-  kind_exact a b c d bs ws small None e h = absurd (let z : ◌≡◌ {A = ℕ} 0 1 = cc in omega arith)
+  kind_exact a b c d bs ws small None e h = grind arith
 
   pub words_exact : (bs ws : List ℕ) → Bytes bs → words_read allows count bs ≡ Ok ws → bs ≡ words_bytes ws
-  words_exact [] ws small h = absurd (let z : ◌≡◌ {A = ℕ} 0 1 = cc in omega arith)
-  words_exact (a ∷ []) ws small h = absurd (let z : ◌≡◌ {A = ℕ} 0 1 = cc in omega arith)
-  words_exact (a ∷ b ∷ []) ws small h = absurd (let z : ◌≡◌ {A = ℕ} 0 1 = cc in omega arith)
-  words_exact (a ∷ b ∷ c ∷ []) ws small h = absurd (let z : ◌≡◌ {A = ℕ} 0 1 = cc in omega arith)
+  words_exact [] ws small h = grind arith
+  words_exact (a ∷ []) ws small h = grind arith
+  words_exact (a ∷ b ∷ []) ws small h = grind arith
+  words_exact (a ∷ b ∷ c ∷ []) ws small h = grind arith
   words_exact (a ∷ b ∷ c ∷ d ∷ bs) ws small h = kind_exact a b c d bs ws small (kind_named (word_of a b c d)) refl h
 
   pub reads_exact : (bs : List ℕ) → Bytes bs → (r : Result (Frame B) WireFault) → Reads words allows count bs r →
@@ -167,7 +152,8 @@ module _ {B : Type 0} (words : B → List ℕ) (allows : List ℕ → ℕ → Bo
   -- whatever reading answers to what is written of a frame, it is that frame
   pub reads_back : (f : Frame B) (r : Result (Frame B) WireFault) → Reads words allows count (frame_bytes words f) r → r ≡ Ok f
   reads_back f (Ok g) h =
-      let e : frame_words words g ≡ frame_words words f = ok_same (sym h ∙ words_again f) in
+      let a = words_again f in
+      let e : frame_words words g ≡ frame_words words f = grind arith in
       ap Ok (same_words g f e)
   reads_back f (Err x) h = absurd (let a = words_again f in let z : ◌≡◌ {A = ℕ} 0 1 = cc in omega arith)
 

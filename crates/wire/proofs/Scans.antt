@@ -1,10 +1,11 @@
 -- Reading words and writing them undo each other.
-use Rattle.std.proofs.Common.{◌≡◌, ℕ, suc, ◌+◌, ◌/◌, ◌%◌, Bool, true, false, cond, eqb, List, [], ◌∷◌, ◌++◌, length, Ok, Err, sym, refl, ap, ◌∙◌, arith}
+use Rattle.std.proofs.Common.{◌≡◌, ℕ, suc, ◌+◌, Bool, true, eqb, List, [], ◌∷◌, ◌++◌, length, Ok, sym, refl, ap, ◌∙◌, arith}
 use Rattle.std.proofs.lemmas.List.{append-nil, append_assoc, length_push}
-use Rattle.std.proofs.lemmas.Bool.{and_parts, and_from, eqb-true, ne_eqb, eq-eqb, ltb-true, lt-ltb, cond-true, cond-false}
+use Rattle.std.proofs.lemmas.Bool.{and_parts, and_from, eq-eqb, ltb-true, lt-ltb, cond-true}
+use Rattle.std.proofs.lemmas.Bool.Decides.{nat_tests}
 use Rattle.body.specs.Words.{in_order, is_word}
 use Rattle.wire.specs.Bytes.{word_of, words_bytes}
-use Rattle.wire.specs.Reading.{words_on, stopped, unfit_word}
+use Rattle.wire.specs.Reading.{words_on}
 use Rattle.wire.proofs.WordBytes.{Bytes, word_again, bytes_again, four_small, word_small}
 
 module _ (allows : List ℕ → ℕ → Bool) (due : ℕ) where
@@ -18,13 +19,10 @@ module _ (allows : List ℕ → ℕ → Bool) (due : ℕ) where
       let p = and_parts (is_word w) _ h in
       let q = and_parts (allows before w) _ p.1 in
       let e = word_again w (ltb-true w 4294967296 p.0) in
-      let x = word_of (w / 16777216 % 256) (w / 65536 % 256) (w / 256 % 256) (w % 256) in
       let n : length (before ++ w ∷ []) + length vs ≡ due = omega (arith, length_push before w) in
       let rest = scan_written vs (before ++ w ∷ []) q.1 n in
-      cond-false (eqb (length before) due) _ _ (ne_eqb (length before) due (λ z. omega arith)) ∙
-      (ap (λ v. cond (allows before v) (words_on allows due (before ++ v ∷ []) (words_bytes vs)) (Err (unfit_word before))) e ∙
-      (cond-true (allows before w) _ _ q.0 ∙
-      (rest ∙ ap Ok (append_assoc before (w ∷ []) vs))))
+      let a = append_assoc before (w ∷ []) vs in
+      grind (arith, nat_tests)
 
   -- what is read as words is what is written of them
   pub record Scanned (before bs ws : List ℕ) : Type 0 where
@@ -33,20 +31,6 @@ module _ (allows : List ℕ → ℕ → Bool) (due : ℕ) where
     pub ranged : in_order allows before vs ≡ true
     pub long : length before + length vs ≡ due
     pub bytes : bs ≡ words_bytes vs
-
-  none_left : (before ws : List ℕ) (t : Bool) → eqb (length before) due ≡ t →
-      cond t (Ok before) (Err (stopped due before)) ≡ Ok ws → Scanned before [] ws
-  unfolding words_bytes
-  none_left before ws true p e =
-      let q : ws ≡ before = cc in
-      record {
-        vs = [];
-        all = q ∙ sym (append-nil before);
-        ranged = refl;
-        long = omega (arith, eqb-true (length before) due p);
-        bytes = refl;
-      }
-  none_left before ws false p e = absurd (let z : ◌≡◌ {A = ℕ} 0 1 = cc in omega arith)
 
   one_more : (a b c d : ℕ) (bs before ws : List ℕ) → Bytes (a ∷ b ∷ c ∷ d ∷ bs) → allows before (word_of a b c d) ≡ true →
       Scanned (before ++ word_of a b c d ∷ []) bs ws → Scanned before (a ∷ b ∷ c ∷ d ∷ bs) ws
@@ -63,22 +47,15 @@ module _ (allows : List ℕ → ℕ → Bool) (due : ℕ) where
         bytes = ap (λ xs. a ∷ (b ∷ (c ∷ (d ∷ xs)))) m.bytes ∙ ap (λ xs. xs ++ words_bytes m.vs) (sym e);
       }
 
-  some_left : (a b c d : ℕ) (bs before ws : List ℕ) → Bytes (a ∷ b ∷ c ∷ d ∷ bs) →
-      (words_on allows due (before ++ word_of a b c d ∷ []) bs ≡ Ok ws → Scanned (before ++ word_of a b c d ∷ []) bs ws) →
-      (t u : Bool) → allows before (word_of a b c d) ≡ u →
-      cond t (Err (stopped due before)) (cond u (words_on allows due (before ++ word_of a b c d ∷ []) bs) (Err (unfit_word before))) ≡ Ok ws →
-      Scanned before (a ∷ b ∷ c ∷ d ∷ bs) ws
-  some_left a b c d bs before ws small rest true u p e = absurd (let z : ◌≡◌ {A = ℕ} 0 1 = cc in omega arith)
-  some_left a b c d bs before ws small rest false true p e = one_more a b c d bs before ws small p (rest e)
-  some_left a b c d bs before ws small rest false false p e = absurd (let z : ◌≡◌ {A = ℕ} 0 1 = cc in omega arith)
-
   pub scan_read : (bs before ws : List ℕ) → Bytes bs → words_on allows due before bs ≡ Ok ws → Scanned before bs ws
-  unfolding words_on
-  scan_read [] before ws small e = none_left before ws (eqb (length before) due) refl e
-  scan_read (a ∷ []) before ws small e = absurd (let z : ◌≡◌ {A = ℕ} 0 1 = cc in omega arith)
-  scan_read (a ∷ b ∷ []) before ws small e = absurd (let z : ◌≡◌ {A = ℕ} 0 1 = cc in omega arith)
-  scan_read (a ∷ b ∷ c ∷ []) before ws small e = absurd (let z : ◌≡◌ {A = ℕ} 0 1 = cc in omega arith)
+  unfolding words_on words_bytes
+  scan_read [] before ws small e =
+      let a = append-nil before in
+      record { vs = []; all = grind (arith, nat_tests); ranged = refl; long = grind (arith, nat_tests); bytes = refl }
+  scan_read (a ∷ []) before ws small e = grind arith
+  scan_read (a ∷ b ∷ []) before ws small e = grind arith
+  scan_read (a ∷ b ∷ c ∷ []) before ws small e = grind arith
   scan_read (a ∷ b ∷ c ∷ d ∷ bs) before ws small e =
-      some_left a b c d bs before ws small
-      (scan_read bs (before ++ word_of a b c d ∷ []) ws (λ i. small (suc (suc (suc (suc i))))))
-      (eqb (length before) due) (allows before (word_of a b c d)) refl e
+      let p : allows before (word_of a b c d) ≡ true = grind (arith, nat_tests) in
+      let q : words_on allows due (before ++ word_of a b c d ∷ []) bs ≡ Ok ws = grind (arith, nat_tests) in
+      one_more a b c d bs before ws small p (scan_read bs (before ++ word_of a b c d ∷ []) ws (λ i. small (suc (suc (suc (suc i))))) q)

@@ -1,5 +1,5 @@
 -- Words one after the other into the front of a buffer.
-use Rattle.std.proofs.Common.{◌≡◌, ℕ, ◌+◌, ◌*◌, ◌<◌, ◌≤◌, List, [], ◌∷◌, ◌++◌, length, get_or, take, drop, Ok, Result, sym, refl, ap, ◌∙◌, ap₂, arith}
+use Rattle.std.proofs.Common.{◌≡◌, ℕ, ◌+◌, ◌*◌, ◌<◌, ◌≤◌, List, [], ◌∷◌, ◌++◌, length, get_or, take, drop, sym, refl, ap, ◌∙◌, ap₂, arith}
 use Rattle.std.proofs.lemmas.List.{append_assoc, take_at, drop-drop, drop_at, take_more, length-take-le, take_all}
 use Rattle.wire.specs.Bytes.{word_bytes, words_bytes}
 
@@ -44,5 +44,5 @@ front_all ws e n h =
     let l : 4 * n ≡ length (words_bytes ws) = omega (arith, length_words_bytes ws) in
     ap₂ (λ xs k. words_bytes xs ++ drop k e) (take_all n ws (omega arith)) l
 
-pub ok_same : {A E : Type 0} {x y : A} → ◌≡◌ {A = Result A E} (Ok x) (Ok y) → x ≡ y
-ok_same e = cc
+-- what `put_words` keeps, from its start to its end
+pub ruleset fronts = (length_words_bytes, front_none, front_more, front_all)

@@ -65,14 +65,14 @@ pub fn frame_length<B: Body>(frame: Frame<B>) -> usize
     4 * frame_words(frame)
 }
 
-// All words of the frame, to the front of a buffer that holds them.
-#[tactic(auto, using(crate::proofs::Written::length_words_bytes, crate::proofs::Written::front_more, crate::proofs::Written::front_none, crate::proofs::Written::front_all))]
+// All words of the frame, to the front of a buffer that holds them. Of a buffer that `chunks_exact_mut` has lent out a
+// proof knows the length alone, so the places are counted.
+#[tactic(auto, using(crate::proofs::Written::fronts))]
 fn put_words<B: Body>(frame: Frame<B>, out: &mut [u8])
     requires { length (frame_bytes B.words frame) ≤ length out.old }
     ensures { out.new ≡ frame_bytes B.words frame ++ drop (length (frame_bytes B.words frame)) out.old }
 {
-    let count = frame_words(frame);
-    for i in 0..count {
+    for i in 0..frame_words(frame) {
         put_word(out, 4 * i, frame_word(frame, i));
     }
 }
