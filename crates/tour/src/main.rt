@@ -23,19 +23,17 @@ fn over_rings(rt: &HostRuntime) -> anyhow::Result<()> {
     let mut rings: RingTransport<NumberClaim> = RingTransport::vacant(
         vec![in rt.alloc(); CELL; 18]?,
     );
-    match rings.make(3) {
-        Ok(()) => carry(rt, &mut rings),
-        Err(_) => Err(anyhow!("the rings are not made")),
-    }
+    rings
+        .make(3)
+        .map_err(|_| anyhow!("the rings are not made"))?;
+    carry(rt, &mut rings)
 }
 
 fn over_logs(rt: &HostRuntime) -> anyhow::Result<()> {
     println!(rt; "The same where each frame is stored once, in two cells for each sender:")?;
     let mut logs: LogTransport<NumberClaim> = LogTransport::vacant(vec![in rt.alloc(); CELL; 6]?);
-    match logs.make(3) {
-        Ok(()) => carry(rt, &mut logs),
-        Err(_) => Err(anyhow!("the logs are not made")),
-    }
+    logs.make(3).map_err(|_| anyhow!("the logs are not made"))?;
+    carry(rt, &mut logs)
 }
 
 fn walk(rt: &HostRuntime) -> anyhow::Result<()> {

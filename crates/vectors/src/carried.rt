@@ -34,10 +34,7 @@ fn finds<T: Transport<Body = NumberClaim>>(
     receiver: u32,
     clock: Option<u32>,
 ) {
-    let found = match t.look(sender, receiver) {
-        Some(frame) => Some(frame.payload.clock.0),
-        None => None,
-    };
+    let found = t.look(sender, receiver).map(|frame| frame.payload.clock.0);
     assert!(rt; found == clock);
 }
 

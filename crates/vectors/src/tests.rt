@@ -80,45 +80,25 @@ fn refused<B: Body + PartialEq>(
     Ok(())
 }
 
+// Printer 2's message 3, with this body.
+fn third<B: Body>(body: B) -> Result<Frame<B>, WireFault> {
+    let content = Content::Data {
+        number: MessageNumber(3),
+        sequencer: 0,
+        role: RoleNumber(4),
+        body,
+    };
+    Frame::new(2, TicketNumber(7), content)
+}
+
 #[test]
 fn bodies(rt: HostRuntime) -> Result<(), Fail> {
     let heap = rt.alloc();
-    let (number, sequencer, role) = (MessageNumber(3), 0, RoleNumber(4));
-    let body = TemplateChange::set(12, 9, 65536);
-    let set = Frame::new(
-        2,
-        TicketNumber(7),
-        Content::Data {
-            number,
-            sequencer,
-            role,
-            body,
-        },
-    )?;
+    let set = third(TemplateChange::set(12, 9, 65536))?;
     check_frame(&rt, heap, set, &[0, 2, 7, 3, 0, 4, 0, 12, 9, 65536])?;
-    let body = TemplateChange::clear_field(TOP, TOP);
-    let clear = Frame::new(
-        2,
-        TicketNumber(7),
-        Content::Data {
-            number,
-            sequencer,
-            role,
-            body,
-        },
-    )?;
+    let clear = third(TemplateChange::clear_field(TOP, TOP))?;
     check_frame(&rt, heap, clear, &[0, 2, 7, 3, 0, 4, 1, TOP, TOP, 0])?;
-    let body = NumberClaim::new(15, 1_000_000)?;
-    let claim = Frame::new(
-        2,
-        TicketNumber(7),
-        Content::Data {
-            number,
-            sequencer,
-            role,
-            body,
-        },
-    )?;
+    let claim = third(NumberClaim::new(15, 1_000_000)?)?;
     check_frame(&rt, heap, claim, &[0, 2, 7, 3, 0, 4, 15, 1_000_000])
 }
 
