@@ -2,7 +2,7 @@
 #![tactic(auto)]
 
 use anyhow::anyhow;
-use printer::{Printer, PrinterFault, Record, RecordKind};
+use printer::{Delays, Printer, PrinterFault, Record, RecordKind};
 use ring::RingTransport;
 use transport::Transport;
 use wire::{ClaimRow, Content, FrameRow, MessageNumber, NumberClaim, PrinterNumber, TicketNumber};
@@ -64,7 +64,7 @@ fn work(rt: &HostRuntime, me: u32) -> anyhow::Result<()> {
     }
     let mut list = vec![in rt.alloc(); PLACE; 4]?;
     let mut shelf = vec![in rt.alloc(); ROW; 16]?;
-    let delays = [0u16, 0u16];
+    let delays = Delays { row: &[0, 0] };
     let mut printer = Printer::open(PrinterNumber::new(me)?, TicketNumber(0));
     let body = NumberClaim::new(3, 500)?;
     let places = list.len();

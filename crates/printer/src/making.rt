@@ -25,20 +25,17 @@ use transport::Transport;
 pub(crate) fn is_switching(state: PrinterState) -> bool
     ensures { result ≡ is_switching state }
 {
-    match state {
-        PrinterState::Active | PrinterState::Passive => false,
-        PrinterState::Rising | PrinterState::Falling => true,
-    }
+    matches!(state, PrinterState::Rising | PrinterState::Falling)
 }
 
 // Whether a printer that wants to rise is active already, or one that wants to fall is passive already.
 pub(crate) fn has_role(kind: RecordKind, state: PrinterState) -> bool
     ensures { result ≡ has_role kind state }
 {
-    match (kind, state) {
-        (RecordKind::Up, PrinterState::Active) | (RecordKind::Down, PrinterState::Passive) => true,
-        _ => false,
-    }
+    matches!(
+        (kind, state),
+        (RecordKind::Up, PrinterState::Active) | (RecordKind::Down, PrinterState::Passive)
+    )
 }
 
 // The number of the next own message, and the sequencer that it is assigned to.

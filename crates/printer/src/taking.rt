@@ -36,7 +36,7 @@ fn lacks_room<B: Body>(backlog: &Backlog, from: PrinterNumber, frame: Frame<B>) 
 fn hear_clock(clocks: &mut Clocks, from: PrinterNumber, clock: TicketNumber)
     ensures { hearing_of clocks.new ≡ hear from.value clock.0 (hearing_of clocks.old) }
 {
-    clocks.own = TicketNumber(clocks.own.0.max(clock.0));
+    clocks.own = clocks.own.max(clock);
     clocks.heard[from.index()] = clock;
 }
 
@@ -45,7 +45,6 @@ fn hold_frame<B: Body>(backlog: &mut Backlog, from: PrinterNumber, frame: Frame<
     requires room { lacks_room from.value (holding_of backlog.old) frame ≡ false }
     ensures { holding_of backlog.new ≡ holding_after from.value frame (holding_of backlog.old) }
 {
-    let number = frame.payload.clock;
     match frame.payload.content {
         Content::Data {
             number,
@@ -63,17 +62,14 @@ fn hold_frame<B: Body>(backlog: &mut Backlog, from: PrinterNumber, frame: Frame<
             sequencer,
             role,
         } => hold(backlog, from, number, RecordKind::Down, (sequencer, role)),
-        Content::Ticket {
-            of,
-            number: message,
-        } => backlog.hold_ticket(
-            from,
-            Stub {
-                number,
+        Content::Ticket { of, number } => {
+            let stub = Stub {
+                number: frame.payload.clock,
                 sender: of,
-                message,
-            },
-        ),
+                message: number,
+            };
+            backlog.hold_ticket(from, stub);
+        }
         Content::Reassign {
             last,
             sent,

@@ -1,5 +1,5 @@
 // Two printers that share claims, step by step.
-use printer::{Printer, PrinterFault, PrinterState, Record, RecordKind};
+use printer::{Delays, Printer, PrinterFault, PrinterState, Record, RecordKind};
 use ring::RingTransport;
 use sender_log::LogTransport;
 use std::alloc::Global;
@@ -26,6 +26,8 @@ const PLACE: Record<ClaimRow> = Record {
     body: ROW,
 };
 
+const DELAYS: Delays = Delays { row: &[0, 0] };
+
 // A printer with its list and its shelf.
 #[derive(Clone, Copy)]
 struct Desk {
@@ -34,12 +36,11 @@ struct Desk {
     shelf: [ClaimRow; 16],
 }
 
-// What a step answered: 0 for done, or the refusal's number.
-fn number_of(answer: Result<(), PrinterFault>) -> u8 {
-    match answer {
-        Ok(()) => 0,
-        Err(fault) => fault.number(),
-    }
+// What a step answers, a fault by its number in the table of refusals.
+type Answer = Result<(), u8>;
+
+fn by_number(answer: Result<(), PrinterFault>) -> Answer {
+    answer.map_err(|fault| fault.number())
 }
 
 impl Desk {
@@ -55,30 +56,29 @@ impl Desk {
         &mut self,
         t: &mut T,
         count: u32,
-    ) -> Result<u8, Fail> {
+    ) -> Result<Answer, Fail> {
         let body = NumberClaim::new(1, count)?;
-        Ok(number_of(self.printer.send(body, &mut self.shelf, t)))
+        Ok(by_number(self.printer.send(body, &mut self.shelf, t)))
     }
 
-    fn transmits<T: Transport<Body = NumberClaim>>(&mut self, t: &mut T) -> u8 {
-        let delays = [0u16; 2];
-        number_of(
+    fn transmits<T: Transport<Body = NumberClaim>>(&mut self, t: &mut T) -> Answer {
+        by_number(
             self.printer
-                .transmit(&delays, &mut self.list, &self.shelf, t),
+                .transmit(&DELAYS, &mut self.list, &self.shelf, t),
         )
     }
 
     // Takes from the other of the two.
-    fn takes<T: Transport<Body = NumberClaim>>(&mut self, t: &mut T) -> u8 {
-        let delays = [0u16; 2];
-        let from = if self.printer.table.me.value == 0 {
+    fn takes<T: Transport<Body = NumberClaim>>(&mut self, t: &mut T) -> Answer {
+        let value = if self.printer.table.me.value == 0 {
             1
         } else {
             0
         };
-        number_of(
+        let from = PrinterNumber { value };
+        by_number(
             self.printer
-                .take(from, &delays, &mut self.list, &mut self.shelf, t),
+                .take(from, &DELAYS, &mut self.list, &mut self.shelf, t),
         )
     }
 }
@@ -87,15 +87,15 @@ impl Desk {
 fn one_order<T: Transport<Body = NumberClaim>>(rt: &impl Abort, t: &mut T) -> Result<(), Fail> {
     let mut zero = Desk::open(0, 0)?;
     let mut one = Desk::open(1, 0)?;
-    assert!(rt; zero.sends(t, 100)? == 0 && one.sends(t, 200)? == 0);
-    assert!(rt; zero.transmits(t) == 0 && one.transmits(t) == 0);
+    assert!(rt; zero.sends(t, 100)? == Ok(()) && one.sends(t, 200)? == Ok(()));
+    assert!(rt; zero.transmits(t) == Ok(()) && one.transmits(t) == Ok(()));
     assert!(rt; zero.printer.table.length == 1 && one.printer.table.length == 0);
-    assert!(rt; zero.takes(t) == 0 && zero.takes(t) == 0 && zero.takes(t) == 17);
-    assert!(rt; one.takes(t) == 0 && one.takes(t) == 0 && one.takes(t) == 17);
+    assert!(rt; zero.takes(t) == Ok(()) && zero.takes(t) == Ok(()) && zero.takes(t) == Err(17));
+    assert!(rt; one.takes(t) == Ok(()) && one.takes(t) == Ok(()) && one.takes(t) == Err(17));
     assert!(rt; zero.printer.table.length == 2 && one.printer.table.length == 2);
     assert!(rt; zero.list[0].body.count == 100 && zero.list[1].body.count == 200);
     assert!(rt; one.list[0].body.count == 100 && one.list[1].body.count == 200);
-    assert!(rt; zero.transmits(t) == 14 && one.transmits(t) == 14);
+    assert!(rt; zero.transmits(t) == Err(14) && one.transmits(t) == Err(14));
     Ok(())
 }
 
@@ -103,17 +103,22 @@ fn one_order<T: Transport<Body = NumberClaim>>(rt: &impl Abort, t: &mut T) -> Re
 fn a_switch<T: Transport<Body = NumberClaim>>(rt: &impl Abort, t: &mut T) -> Result<(), Fail> {
     let mut zero = Desk::open(0, 0)?;
     let mut one = Desk::open(1, 0)?;
-    assert!(rt; number_of(one.printer.raise(t)) == 8 && number_of(one.printer.change(0)) == 8);
-    assert!(rt; number_of(one.printer.lower(t)) == 0 && one.sends(t, 1)? == 7);
-    assert!(rt; one.transmits(t) == 0 && one.transmits(t) == 14);
-    assert!(rt; zero.takes(t) == 0 && zero.takes(t) == 0 && zero.printer.table.length == 1);
+    assert!(rt;
+        by_number(one.printer.raise(t)) == Err(8)
+            && by_number(one.printer.change(zero.printer.table.me)) == Err(8)
+    );
+    assert!(rt; by_number(one.printer.lower(t)) == Ok(()) && one.sends(t, 1)? == Err(7));
+    assert!(rt; one.transmits(t) == Ok(()) && one.transmits(t) == Err(14));
+    assert!(rt;
+        zero.takes(t) == Ok(()) && zero.takes(t) == Ok(()) && zero.printer.table.length == 1
+    );
     assert!(rt; zero.list[0].kind == RecordKind::Down);
-    assert!(rt; zero.transmits(t) == 0 && one.takes(t) == 0);
+    assert!(rt; zero.transmits(t) == Ok(()) && one.takes(t) == Ok(()));
     assert!(rt; one.printer.table.duty.state == PrinterState::Passive);
     assert!(rt; one.printer.table.duty.sequencer.0 == 0);
-    assert!(rt; one.sends(t, 300)? == 0 && one.transmits(t) == 14);
-    assert!(rt; zero.takes(t) == 0 && zero.transmits(t) == 0);
-    assert!(rt; one.takes(t) == 0 && one.printer.table.length == 2);
+    assert!(rt; one.sends(t, 300)? == Ok(()) && one.transmits(t) == Err(14));
+    assert!(rt; zero.takes(t) == Ok(()) && zero.transmits(t) == Ok(()));
+    assert!(rt; one.takes(t) == Ok(()) && one.printer.table.length == 2);
     assert!(rt; one.list[1].body.count == 300);
     Ok(())
 }
@@ -124,10 +129,10 @@ fn bounds(rt: &impl Abort, heap: Global) -> Result<(), Fail> {
     assert!(rt; t.make(2).is_ok());
     let mut one = Desk::open(1, 4_294_967_294)?;
     for _ in 0..7 {
-        assert!(rt; one.sends(&mut t, 5)? == 0);
+        assert!(rt; one.sends(&mut t, 5)? == Ok(()));
     }
-    assert!(rt; one.sends(&mut t, 5)? == 10);
-    assert!(rt; one.transmits(&mut t) == 0 && one.transmits(&mut t) == 15);
+    assert!(rt; one.sends(&mut t, 5)? == Err(10));
+    assert!(rt; one.transmits(&mut t) == Ok(()) && one.transmits(&mut t) == Err(15));
     Ok(())
 }
 

@@ -1,7 +1,7 @@
 use Rattle.std.proofs.Common.{◌≡◌, Err, refl, ap, ◌∙◌, arith}
 use Rattle.std.proofs.lemmas.Result.{err_from_is_err_and}
 use Rattle.table.specs.Printers.{printer_of}
-use Rattle.printer.specs.Making.{undelivered, make_refusal, held_own}
+use Rattle.printer.specs.Making.{undelivered, make_refusal, held_own, made}
 use Rattle.printer.proofs.PostLaws.{refused_unless}
 use Rattle.printer.proofs.making.make.Goals as goal
 
@@ -22,5 +22,10 @@ hold_own-requires g c =
 
 pub returns-clause-table : goal.returns-clause-table
 returns-clause-table g c =
+    let t = c.args.table.now in
+    let q = c.post.new.table in
     let p = c.in_ok-post.ensures in
-    c.hold_own.ensures.table ∙ (λ i. held_own c.args.kind (p.me i).value (p.table i))
+    let posted : held_own c.args.kind q.me.value (printer_of q) ≡ made c.args.kind t.me.value (printer_of t) =
+    λ i. held_own c.args.kind (p.me i).value (p.table i)
+    in
+    c.hold_own.ensures.table ∙ posted

@@ -1,6 +1,4 @@
-use Rattle.std.proofs.Common.{refl}
 use Rattle.table.specs.Printers.{printer_of}
-use Rattle.table.proofs.Paths.{printer_path}
 use Rattle.table.proofs.Sound.{sound}
 use Rattle.printer.proofs.Holds.{issued_sound}
 use Rattle.printer.proofs.transmitting.hold_ticket.Goals as goal
@@ -19,6 +17,3 @@ invariant_of-table c =
       own_ok = s.own;
       owes_ok = s.owes;
     }
-
-pub returns : goal.returns
-returns c = record { table = printer_path _ _ refl refl refl c.hold_ticket.ensures refl; me = refl }
