@@ -7,6 +7,7 @@ mod wire_stop;
 use anyhow::anyhow;
 use ring::RingTransport;
 use sender_log::LogTransport;
+use transport::CellTransport;
 use transport_stop::carry;
 use wire::{ClaimRow, Content, FrameRow, NumberClaim, TicketNumber};
 use wire_stop::{damaged_block, number_claim, template_change};
@@ -18,30 +19,24 @@ const CELL: FrameRow<ClaimRow> = FrameRow {
     content: Content::Clock,
 };
 
-fn over_rings(rt: &HostRuntime) -> anyhow::Result<()> {
-    println!(rt; "Three printers share claims; a ring of two cells for each pair carries them:")?;
-    let mut rings: RingTransport<NumberClaim> = RingTransport::vacant(
-        vec![in rt.alloc(); CELL; 18]?,
-    );
-    rings
-        .make(3)
-        .map_err(|_| anyhow!("the rings are not made"))?;
-    carry(rt, &mut rings)
-}
-
-fn over_logs(rt: &HostRuntime) -> anyhow::Result<()> {
-    println!(rt; "The same where each frame is stored once, in two cells for each sender:")?;
-    let mut logs: LogTransport<NumberClaim> = LogTransport::vacant(vec![in rt.alloc(); CELL; 6]?);
-    logs.make(3).map_err(|_| anyhow!("the logs are not made"))?;
-    carry(rt, &mut logs)
+// Three printers over so many cells.
+fn over<T: CellTransport<Body = NumberClaim> + Drop>(
+    rt: &HostRuntime,
+    cells: usize,
+) -> anyhow::Result<()> {
+    let mut t = T::vacant(vec![in rt.alloc(); CELL; cells]?);
+    t.make(3).map_err(|_| anyhow!("the transport is not made"))?;
+    carry(rt, &mut t)
 }
 
 fn walk(rt: &HostRuntime) -> anyhow::Result<()> {
     template_change(rt)?;
     number_claim(rt)?;
     damaged_block(rt)?;
-    over_rings(rt)?;
-    over_logs(rt)
+    println!(rt; "Three printers share claims; a ring of two cells for each pair carries them:")?;
+    over::<RingTransport<NumberClaim>>(rt, 18)?;
+    println!(rt; "The same where each frame is stored once, in two cells for each sender:")?;
+    over::<LogTransport<NumberClaim>>(rt, 6)
 }
 
 fn main(rt: HostRuntime) -> anyhow::Result<()> {

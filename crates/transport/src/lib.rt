@@ -1,6 +1,7 @@
 // What a transport between printers means, and code that knows a transport by that alone.
 #![tactic(auto)]
 
+mod cells;
 mod draining;
 mod faults;
 mod limits;
@@ -11,6 +12,7 @@ mod places;
 mod series;
 mod storing;
 
+pub use cells::CellTransport;
 pub use draining::drain;
 pub use faults::{Layer, TransportFault, TransportRefusal};
 pub use limits::fair_limit;

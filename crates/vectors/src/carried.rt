@@ -1,10 +1,9 @@
 // Frames over any transport of three printers whose pairs hold two frames.
 use ring::RingTransport;
 use sender_log::LogTransport;
-use std::alloc::Global;
 use std::process::Abort;
 use std::test::Fail;
-use transport::{Transport, TransportFault, TransportRefusal, drain};
+use transport::{CellTransport, Transport, TransportFault, TransportRefusal, drain};
 use wire::{ClaimRow, Content, FrameRow, NumberClaim, Payload, PrinterNumber, TicketNumber};
 
 const CELL: FrameRow<ClaimRow> = FrameRow {
@@ -81,32 +80,29 @@ fn carries<T: Transport<Body = NumberClaim>>(rt: &impl Abort, t: &mut T) -> Resu
     Ok(())
 }
 
-fn rings(rt: &impl Abort, heap: Global) -> Result<RingTransport<NumberClaim>, Fail> {
-    let mut rings = RingTransport::vacant(vec![in heap; CELL; 26]?);
-    assert!(rt; rings.make(1).is_err() && rings.make(8).is_err() && rings.make(3).is_ok());
-    Ok(rings)
-}
-
-fn logs(rt: &impl Abort, heap: Global) -> Result<LogTransport<NumberClaim>, Fail> {
-    let mut logs = LogTransport::vacant(vec![in heap; CELL; 7]?);
-    assert!(rt; logs.make(9).is_err() && logs.make(8).is_err() && logs.make(3).is_ok());
-    Ok(logs)
+// Over so many cells, which do not serve these numbers of printers, but three.
+fn over<T: CellTransport<Body = NumberClaim> + Drop>(
+    rt: &HostRuntime,
+    cells: usize,
+    refused: [u32; 2],
+) -> Result<(), Fail> {
+    let mut t = T::vacant(vec![in rt.alloc(); CELL; cells]?);
+    for n in refused {
+        assert!(rt; t.make(n).is_err());
+    }
+    assert!(rt; t.make(3).is_ok());
+    numbers_not_there(rt, &mut t)?;
+    carries(rt, &mut t)?;
+    assert!(rt; t.into_cells().len() == cells);
+    Ok(())
 }
 
 #[test]
 fn over_rings(rt: HostRuntime) -> Result<(), Fail> {
-    let mut t = rings(&rt, rt.alloc())?;
-    numbers_not_there(&rt, &mut t)?;
-    carries(&rt, &mut t)?;
-    assert!(rt; t.into_cells().len() == 26);
-    Ok(())
+    over::<RingTransport<NumberClaim>>(&rt, 26, [1, 8])
 }
 
 #[test]
 fn over_logs(rt: HostRuntime) -> Result<(), Fail> {
-    let mut t = logs(&rt, rt.alloc())?;
-    numbers_not_there(&rt, &mut t)?;
-    carries(&rt, &mut t)?;
-    assert!(rt; t.into_cells().len() == 7);
-    Ok(())
+    over::<LogTransport<NumberClaim>>(&rt, 7, [9, 8])
 }
