@@ -1,6 +1,7 @@
 // Frames over any transport of three printers whose pairs hold two frames.
 use ring::RingTransport;
 use sender_log::LogTransport;
+use std::alloc::Global;
 use std::process::Abort;
 use std::test::Fail;
 use transport::{CellTransport, Transport, TransportFault, TransportRefusal, drain};
@@ -82,11 +83,12 @@ fn carries<T: Transport<Body = NumberClaim>>(rt: &impl Abort, t: &mut T) -> Resu
 
 // Over so many cells, which do not serve these numbers of printers, but three.
 fn over<T: CellTransport<Body = NumberClaim> + Drop>(
-    rt: &HostRuntime,
+    rt: &impl Abort,
+    heap: Global,
     cells: usize,
     refused: [u32; 2],
 ) -> Result<(), Fail> {
-    let mut t = T::vacant(vec![in rt.alloc(); CELL; cells]?);
+    let mut t = T::vacant(vec![in heap; CELL; cells]?);
     for n in refused {
         assert!(rt; t.make(n).is_err());
     }
@@ -99,10 +101,10 @@ fn over<T: CellTransport<Body = NumberClaim> + Drop>(
 
 #[test]
 fn over_rings(rt: HostRuntime) -> Result<(), Fail> {
-    over::<RingTransport<NumberClaim>>(&rt, 26, [1, 8])
+    over::<RingTransport<NumberClaim>>(&rt, rt.alloc(), 26, [1, 8])
 }
 
 #[test]
 fn over_logs(rt: HostRuntime) -> Result<(), Fail> {
-    over::<LogTransport<NumberClaim>>(&rt, 7, [9, 8])
+    over::<LogTransport<NumberClaim>>(&rt, rt.alloc(), 7, [9, 8])
 }
