@@ -18,7 +18,7 @@ impl<B: Body> RingTransport<B> {
         RingTransport {
             members: Members::all_open(0),
             limit: 1,
-            circles: PairTable::filled(Circle { start: 0, held: 0 }),
+            circles: PairTable::filled(Circle::EMPTY),
             cells,
         }
     }
@@ -33,7 +33,7 @@ impl<B: Body> RingTransport<B> {
     {
         self.members = Members::all_open(n);
         self.limit = limit;
-        self.circles = PairTable::filled(Circle { start: 0, held: 0 });
+        self.circles = PairTable::filled(Circle::EMPTY);
     }
 
     // Makes the transport of n printers over the cells, empty and open, whatever it was before: each ordered pair may hold
