@@ -6,3 +6,7 @@ pub(crate) struct Circle {
     pub(crate) start: usize,
     pub(crate) held: usize,
 }
+
+impl Circle {
+    pub(crate) const EMPTY: Circle = Circle { start: 0, held: 0 };
+}

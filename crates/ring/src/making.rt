@@ -20,7 +20,7 @@ impl<B: Body> RingTransport<B> {
     {
         self.members = Members::all_open(n);
         self.limit = limit;
-        self.circles = PairTable::filled(Circle { start: 0, held: 0 });
+        self.circles = PairTable::filled(Circle::EMPTY);
     }
 }
 
@@ -38,7 +38,7 @@ impl<B: Body> CellTransport for RingTransport<B> {
         RingTransport {
             members: Members::all_open(0),
             limit: 1,
-            circles: PairTable::filled(Circle { start: 0, held: 0 }),
+            circles: PairTable::filled(Circle::EMPTY),
             cells,
         }
     }

@@ -4,13 +4,14 @@ ghost use Rattle.transport.specs.Nets.{making_answer};
 
 use crate::faults::{TransportFault, TransportRefusal};
 
-fn refused(refusal: TransportRefusal) -> Result<usize, TransportFault>
-    ensures { result ≡ Err (record { refusal = refusal; printer = 0 }) }
+// A fault of no printer.
+fn fault(refusal: TransportRefusal) -> TransportFault
+    ensures { result ≡ record { refusal = refusal; printer = 0 } }
 {
-    Err(TransportFault {
+    TransportFault {
         refusal,
         printer: 0,
-    })
+    }
 }
 
 // The limit that the cells give where each of so many shares gets as many of them. It is refused if n is below 2 or above
@@ -24,11 +25,11 @@ pub fn fair_limit(n: u32, cells: usize, shares: usize) -> Result<usize, Transpor
     ensures fits { (limit : ℕ) → result ≡ Ok limit → shares * limit ≤ cells }
 {
     if !(2..=8).contains(&n) {
-        return refused(TransportRefusal::PrinterCount);
+        return Err(fault(TransportRefusal::PrinterCount));
     }
     let limit = cells / shares;
     if limit == 0 {
-        return refused(TransportRefusal::NoLimit);
+        return Err(fault(TransportRefusal::NoLimit));
     }
     Ok(limit)
 }
