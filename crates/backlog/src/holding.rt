@@ -1,11 +1,11 @@
 // Holding messages and tickets, and letting them go.
-ghost use Rattle.std.specs.Prelude.{◌≡◌, ◌<◌, ◌≤◌, true, length, slice_index_or};
+ghost use Rattle.std.specs.Prelude.{◌≡◌, ◌+◌, ◌<◌, ◌≤◌, true, length, slice_index_or};
 ghost use Rattle.backlog.specs.Blanks.{no_held};
 ghost use Rattle.backlog.specs.Sweeps.{Swept};
 ghost use Rattle.backlog.specs.Holdings.{assign_to, is_between, holding_of, nothing_held, message_row, reassigned_row, number_at, hold_message, hold_ticket, pass_first, drop_messages, reassigned, reassigned_all, holds_message, message_at};
 
 use crate::backlog::Backlog;
-use crate::rows::{Held, MessageRow, Row, Stub};
+use crate::rows::{Held, Row, Stub};
 use frame::{MessageNumber, PrinterNumber, RoleNumber, TicketNumber};
 use roles::RecordKind;
 
@@ -78,12 +78,21 @@ fn reassign_slots(
     }
 }
 
-// Gives the held messages after `last` up to `sent` to another sequencer.
-fn reassign_row(row: &mut MessageRow, last: u32, sent: u32, assigned: (u32, RoleNumber))
-    ensures { message_row row.new ≡ reassigned_row (message_row row.old) last sent assigned }
-{
-    let end = sent.min(row.passed + row.count);
-    reassign_slots(&mut row.slots, row.passed, last, end, assigned);
+impl Row<Held, 8> {
+    // Whether the message with this number is held.
+    fn holds(&self, number: MessageNumber) -> bool
+        ensures { result ≡ is_between self.now.passed (self.now.passed + self.now.count) number.0 }
+    {
+        self.passed < number.0 && number.0 <= self.passed + self.count
+    }
+
+    // Gives the held messages after `last` up to `sent` to another sequencer.
+    fn reassign(&mut self, last: u32, sent: u32, assigned: (u32, RoleNumber))
+        ensures { message_row self.new ≡ reassigned_row (message_row self.old) last sent assigned }
+    {
+        let end = sent.min(self.passed + self.count);
+        reassign_slots(&mut self.slots, self.passed, last, end, assigned);
+    }
 }
 
 impl Backlog {
@@ -97,7 +106,7 @@ impl Backlog {
     )
         ensures { holding_of self.new ≡ reassigned (holding_of self.old) sender.value last.0 sent.0 assigned }
     {
-        reassign_row(&mut self.messages[sender.index()], last.0, sent.0, assigned);
+        self.messages[sender.index()].reassign(last.0, sent.0, assigned);
     }
 
     // Gives all held messages of a sender to another sequencer.
@@ -105,7 +114,7 @@ impl Backlog {
         ensures { holding_of self.new ≡ reassigned_all (holding_of self.old) sender.value assigned }
     {
         let row = &mut self.messages[sender.index()];
-        reassign_row(row, row.passed, row.passed + row.count, assigned);
+        row.reassign(row.passed, row.passed + row.count, assigned);
     }
 
     // Whether a message of a sender is held.
@@ -113,8 +122,9 @@ impl Backlog {
         ensures answer { result ≡ holds_message (holding_of self.now) sender number.0 }
         ensures there { result ≡ true → sender < 8 }
     {
-        self.messages.get(sender as usize).is_some_and(|row| row.passed < number.0
-            && number.0 <= row.passed + row.count)
+        self.messages
+            .get(sender as usize)
+            .is_some_and(|row| row.holds(number))
     }
 
     // What is kept of a held message.

@@ -15,6 +15,7 @@ impl Configuration {
         ensures least { Nearest (length delays.now.row.now) (conf_of self.now) (delay_in delays.now.row.now) (option_map (λ p. p.value) result) }
     {
         let mut best: Option<PrinterNumber> = None;
+        // By a rule of the project a row that is walked with its index is walked by a `for`.
         for (printer, delay) in delays.row.iter().enumerate() {
             let value = printer as u32;
             let nearer = match best {
