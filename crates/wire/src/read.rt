@@ -63,6 +63,7 @@ fn fill_words<B: Body>(kind: FrameKind, bytes: &[u8], words: &mut [u32]) -> Resu
 fn read_rest<B: Body>(kind: FrameKind, bytes: &[u8]) -> Result<Frame<B>, WireFault>
     ensures { RestReads B.words B.allows B.count kind bytes.now result }
 {
+    // an `ArrayVec` in place of this array made reading slower by up to a tenth
     let mut buffer = [0; MOST_WORDS];
     let words = &mut buffer[..words_after::<B>(kind)];
     fill_words::<B>(kind, bytes, words)?;

@@ -9,7 +9,7 @@ fn content_from_words<B: Body>(kind: FrameKind, words: &[u32]) -> Option<Content
     ensures { result ≡ content_rebuilt B.rebuilt kind words.now }
 {
     match (kind, words) {
-        // `B::from_words(body)?` says the same, and made reading slower by a tenth
+        // `B::from_words(body)?` says the same, and made reading slower by up to a tenth
         (FrameKind::Data, [number, sequencer, role, body @ ..]) => match B::from_words(body) {
             Some(body) => Some(Content::Data {
                 number: MessageNumber(*number),
