@@ -6,8 +6,8 @@ use roles::RecordKind;
 use std::alloc::AllocError;
 
 // The things of one sender or of one issuer, in their order: the first `passed` of them were passed on, and the next
-// `count` are held. Thing k lies at k modulo N. A list has at most 65,536 records, so no more than that are ever passed
-// on.
+// `count` are held. Thing k lies at k modulo N, so nothing is searched or shifted; a row is plain and allocates nothing,
+// like the whole table that it lies in. A list has at most 65,536 records, so no more than that are ever passed on.
 #[derive(Copy)]
 pub struct Row<T, const N: usize> {
     pub passed: u32,
@@ -28,7 +28,8 @@ impl<T: Copy, const N: usize> Clone for Row<T, N> {
     }
 }
 
-// A message that is not delivered yet, and the sequencer that it is assigned to, under that printer's role number.
+// A message that is not delivered yet, and the sequencer that it is assigned to, under that printer's role number. The
+// two are a pair, here and wherever they are asked or compared, by a rule of the project.
 #[derive(Clone, Copy)]
 pub struct Held {
     pub kind: RecordKind,
@@ -38,7 +39,8 @@ pub struct Held {
 // The messages held of one sender. They are numbered from 1, so `passed` is the number of the last one passed on too.
 pub type MessageRow = Row<Held, 8>;
 
-// What is kept of a ticket in its issuer's row.
+// What is kept of a ticket in its issuer's row. Sender and number of a message stay two, here and in what is asked of a
+// backlog: one picks the row, the other the place in it, and a struct would be taken apart at each use.
 #[derive(Clone, Copy)]
 pub struct Stub {
     pub number: TicketNumber,

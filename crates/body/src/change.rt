@@ -23,7 +23,7 @@ pub struct TemplateChange {
     ghost ok: { change_ok what template field value ≡ true },
 }
 
-// A change as a plain row.
+// A change as a plain row: its kind is a number too, since rows have no ranges and lie in cells and stores.
 #[derive(Clone, Copy, PartialEq, Eq, Debug)]
 pub struct ChangeRow {
     pub what: u32,

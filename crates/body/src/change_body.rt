@@ -49,7 +49,7 @@ impl ChangeKind {
 }
 
 impl TemplateChange {
-    // A change from plain numbers.
+    // A change from plain numbers, as words and rows have them, its kind's too: any four numbers have an answer.
     pub fn new(
         what: u32,
         template: u32,

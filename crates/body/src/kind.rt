@@ -25,6 +25,7 @@ pub trait Body: Sized + Copy {
     // the body of a row
     ghost remade: { Self.Row → Option Self };
 
+    // Counted by a function, since a contract cannot name a constant of a trait.
     fn word_count() -> usize
         ensures { result ≡ count };
 
@@ -34,6 +35,7 @@ pub trait Body: Sized + Copy {
     fn in_range(before: &[u32], word: u32) -> bool
         ensures { result ≡ allows before.now word };
 
+    // Functions of this trait in place of `From` and `TryFrom`, since the laws below tie them to each other.
     fn from_words(given: &[u32]) -> Option<Self>
         ensures { result ≡ rebuilt given.now };
 

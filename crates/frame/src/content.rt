@@ -2,7 +2,8 @@
 use crate::counters::{MessageNumber, RoleNumber};
 
 // Plain numbers, in no range yet: a `Payload` holds only a content that is in its ranges.
-// A message names the sequencer that is to ticket it, with that printer's role number.
+// A message names the sequencer that is to ticket it, with that printer's role number. The two stay fields of their
+// own, since a frame is written, read and taken apart field by field.
 #[derive(Clone, Copy, PartialEq, Eq)]
 pub enum Content<B> {
     Data {

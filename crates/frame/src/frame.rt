@@ -12,6 +12,7 @@ pub struct Frame<B> {
     pub payload: Payload<B>,
 }
 
+// By hand, as for `Payload`, which a derive would have to clone.
 impl<B: Copy> Clone for Frame<B> {
     ghost is_clone = { λ given copy. copy ≡ given };
 

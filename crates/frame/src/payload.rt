@@ -14,6 +14,7 @@ pub struct Payload<B> {
     ghost ok: { payload_ok clock content ≡ true },
 }
 
+// By hand: the derive does not cover a generic struct with a ghost field.
 impl<B: Copy> Clone for Payload<B> {
     ghost is_clone = { λ given copy. copy ≡ given };
 

@@ -7,6 +7,7 @@ use crate::frame::Frame;
 use crate::frame_row::FrameRow;
 use body::Body;
 
+// This match and the next stay two: one may fail, and a function over both by a closure would need a match for each.
 fn content_to_row<B: Body>(content: Content<B>) -> Content<B::Row>
     ensures { result ≡ content_row B.Body.row content }
 {
@@ -106,7 +107,7 @@ fn content_from_row<B: Body>(content: Content<B::Row>) -> Option<Content<B>>
 }
 
 impl<B: Body> Frame<B> {
-    // The row of the frame, from which the same frame is made again.
+    // The row of the frame, from which the same frame is made again. No `From`, as for bodies.
     pub fn to_row(self) -> FrameRow<B::Row>
         ensures value { result ≡ frame_row B.Body.row self }
         ensures again { frame_remade B.remade result ≡ Some self }

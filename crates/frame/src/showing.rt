@@ -106,6 +106,7 @@ fn write_body<W: fmt::Write, B: Body>(f: &mut Formatter<W>, body: B) -> fmt::Res
     ensures { WritesOnOk W.write_str_gives f.old result (body_text (B.words body)) f.new }
 {
     write!(f, " body={}", body.word(0))?;
+    // a body tells its words one by one, by their places
     for i in 1..B::word_count() {
         write!(f, ",{}", body.word(i))?;
     }

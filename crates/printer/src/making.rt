@@ -138,7 +138,7 @@ impl Printer {
         Ok(())
     }
 
-    // Asks to become active.
+    // Asks to become active. What this shares with `lower` is `make`; the content and the answer are each one's own.
     pub fn raise<T: Transport>(&mut self, transport: &mut T) -> Result<(), PrinterFault>
         ensures answer { result ≡ make_answer Up (number_of self.old) (kept_by self.old) (T.meaning transport.old) }
         ensures table { kept_by self.new ≡ (if is_ok result then made Up (number_of self.old) (kept_by self.old) else kept_by self.old) }

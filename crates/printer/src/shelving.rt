@@ -9,6 +9,7 @@ use table::shelf_place;
 pub(crate) fn lay<R: Copy>(shelf: &mut [R], sender: PrinterNumber, number: MessageNumber, row: R)
     ensures { shelf.new ≡ slice_set shelf.old (shelf_place sender.value number.0) row }
 {
+    // tested and set, since the proof over `get_mut` did not close
     let place = shelf_place(sender.value, number);
     if place < shelf.len() {
         shelf[place] = row;

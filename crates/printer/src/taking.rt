@@ -40,7 +40,7 @@ fn hear_clock(clocks: &mut Clocks, from: PrinterNumber, clock: TicketNumber)
     clocks.heard[from.index()] = clock;
 }
 
-// Holds what a frame brings.
+// Holds what a frame brings. Three arms hold a message, since each names its kind.
 fn hold_frame<B: Body>(backlog: &mut Backlog, from: PrinterNumber, frame: Frame<B>)
     requires room { lacks_room from.value (holding_of backlog.old) frame ≡ false }
     ensures { holding_of backlog.new ≡ holding_after from.value frame (holding_of backlog.old) }

@@ -30,7 +30,7 @@ pub enum PrinterRefusal {
 }
 
 impl PrinterRefusal {
-    // The refusal's number in the table of refusals.
+    // The refusal's number in the table of refusals: asked by name, where `u8::from` would not say which number it is.
     pub fn number(self) -> u8
         ensures { result ≡ refusal_number self }
     {
@@ -57,7 +57,7 @@ impl From<TransportFault> for PrinterFault {
 }
 
 impl PrinterFault {
-    // The number in the table of refusals.
+    // The number in the table of refusals: a question beside the layer and the printer, and no conversion.
     pub fn number(self) -> u8
         ensures { result ≡ fault_number self }
     {

@@ -1,4 +1,5 @@
-// The rings as a transport.
+// The rings as a transport. It is alike to the other one, and stays an impl of its own: what both do alike stands in crate
+// `transport`, and what is left asks fields and methods of this struct, a line for each call.
 ghost use Rattle.std.specs.Prelude.{◌≡◌, ◌≤◌};
 ghost use Rattle.transport.specs.Nets.{after_post, most_posts, post_answer};
 ghost use Rattle.ring.specs.Meaning.{ring_meaning};

@@ -44,7 +44,8 @@ impl PrinterTable {
 
 impl PrinterTable {
     // Passes the first held tickets on, one after the other, until one may not be passed on, none is left, or the list
-    // is full. There is a delay for each printer of the hall.
+    // is full. There is a delay for each printer of the hall. List and shelf are plain slices, a printer's own part of its
+    // hall's stores, so the bound of a list is asked here.
     pub fn pass_on<R: Copy>(
         &mut self,
         heed: Heed,

@@ -8,7 +8,8 @@ use crate::table::{Clocks, PrinterTable};
 use backlog::Ticket;
 use frame::{PrinterCount, TicketNumber};
 
-// What passing on heeds: the clocks of the active printers, or nothing, when a printer leaves.
+// What passing on heeds: the clocks of the active printers, or nothing, when a printer leaves. An enum and no closure:
+// there are these two rules and no other, and the definitions know them by name.
 #[derive(Clone, Copy)]
 pub enum Heed {
     Clocks,

@@ -25,7 +25,7 @@ pub enum TransportRefusal {
 }
 
 impl TransportRefusal {
-    // The refusal's number in the table of refusals.
+    // The refusal's number in the table of refusals: asked by name, where `u8::from` would not say which number it is.
     pub fn number(self) -> u8
         ensures { result ≡ refusal_number self }
     {

@@ -1,7 +1,8 @@
 // Tables of what is kept for each ordered pair of printers.
 ghost use Rattle.std.specs.Prelude.{◌≡◌, ◌+◌, ◌*◌, ◌<◌, length};
 
-// A value for each sender and receiver, of up to eight printers.
+// A value for each sender and receiver, of up to eight printers, in fixed memory. Both are plain numbers, as in the calls
+// of a transport, which answer any number.
 #[derive(Drop)]
 pub struct PairTable<T> {
     places: [T; 64],

@@ -19,6 +19,7 @@ fn content_from_words<B: Body>(kind: FrameKind, words: &[u32]) -> Option<Content
             }),
             None => None,
         },
+        // an up and a down differ in the variant alone, and to tell them apart takes two arms here or elsewhere
         (FrameKind::Up, [number, sequencer, role]) => Some(Content::Up {
             number: MessageNumber(*number),
             sequencer: *sequencer,
