@@ -4,10 +4,10 @@
 use anyhow::anyhow;
 use printer::{Delays, Printer, PrinterFault, Record, RecordKind};
 use ring::RingTransport;
-use transport::Transport;
-use wire::{ClaimRow, Content, FrameRow, MessageNumber, NumberClaim, PrinterNumber, TicketNumber};
+use transport::CellTransport;
+use wire::{ClaimRow, FrameRow, MessageNumber, NumberClaim, PrinterNumber, TicketNumber};
 
-// What stores and cells hold at first does not matter.
+// What stores hold at first does not matter.
 const ROW: ClaimRow = ClaimRow {
     series: 0,
     count: 0,
@@ -18,12 +18,6 @@ const PLACE: Record<ClaimRow> = Record {
     printer: 0,
     number: MessageNumber(0),
     body: ROW,
-};
-
-const CELL: FrameRow<ClaimRow> = FrameRow {
-    sender: 0,
-    clock: TicketNumber(0),
-    content: Content::Clock,
 };
 
 // A step's answer in words.
@@ -57,11 +51,11 @@ fn show_list(rt: &HostRuntime, printer: &Printer, list: &[Record<ClaimRow>]) -> 
 // Printer `me` of two sends a claim and transmits twice.
 fn work(rt: &HostRuntime, me: u32) -> anyhow::Result<()> {
     let mut rings: RingTransport<NumberClaim> = RingTransport::vacant(
-        vec![in rt.alloc(); CELL; 16]?,
+        vec![in rt.alloc(); FrameRow::IDLE; 16]?,
     );
-    if rings.make(2).is_err() {
-        return Err(anyhow!("the rings are not made"));
-    }
+    rings
+        .make(2)
+        .map_err(|_| anyhow!("the rings are not made"))?;
     let mut list = vec![in rt.alloc(); PLACE; 4]?;
     let mut shelf = vec![in rt.alloc(); ROW; 16]?;
     let delays = Delays { row: &[0, 0] };

@@ -9,3 +9,12 @@ pub struct FrameRow<R> {
     pub clock: TicketNumber,
     pub content: Content<R>,
 }
+
+impl<R> FrameRow<R> {
+    // What a cell may hold at first: the row of a clock frame that tells nothing.
+    pub const IDLE: FrameRow<R> = FrameRow {
+        sender: 0,
+        clock: TicketNumber(0),
+        content: Content::Clock,
+    };
+}

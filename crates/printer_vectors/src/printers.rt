@@ -5,14 +5,8 @@ use sender_log::LogTransport;
 use std::alloc::Global;
 use std::process::Abort;
 use std::test::Fail;
-use transport::Transport;
-use wire::{ClaimRow, Content, FrameRow, MessageNumber, NumberClaim, PrinterNumber, TicketNumber};
-
-const CELL: FrameRow<ClaimRow> = FrameRow {
-    sender: 0,
-    clock: TicketNumber(0),
-    content: Content::Clock,
-};
+use transport::{CellTransport, Transport};
+use wire::{ClaimRow, FrameRow, MessageNumber, NumberClaim, PrinterNumber, TicketNumber};
 
 const ROW: ClaimRow = ClaimRow {
     series: 0,
@@ -123,10 +117,20 @@ fn a_switch<T: Transport<Body = NumberClaim>>(rt: &impl Abort, t: &mut T) -> Res
     Ok(())
 }
 
+// A transport of two printers over so many cells.
+fn two<T: CellTransport<Body = NumberClaim> + Drop>(
+    rt: &impl Abort,
+    heap: Global,
+    cells: usize,
+) -> Result<T, Fail> {
+    let mut t = T::vacant(vec![in heap; FrameRow::IDLE; cells]?);
+    assert!(rt; t.make(2).is_ok());
+    Ok(t)
+}
+
 // The bounds: seven own messages, eight held of a sender, the clock's end.
 fn bounds(rt: &impl Abort, heap: Global) -> Result<(), Fail> {
-    let mut t: RingTransport<NumberClaim> = RingTransport::vacant(vec![in heap; CELL; 64]?);
-    assert!(rt; t.make(2).is_ok());
+    let mut t: RingTransport<NumberClaim> = two(rt, heap, 64)?;
     let mut one = Desk::open(1, 4_294_967_294)?;
     for _ in 0..7 {
         assert!(rt; one.sends(&mut t, 5)? == Ok(()));
@@ -138,15 +142,13 @@ fn bounds(rt: &impl Abort, heap: Global) -> Result<(), Fail> {
 
 #[test]
 fn one_order_over_rings(rt: HostRuntime) -> Result<(), Fail> {
-    let mut t: RingTransport<NumberClaim> = RingTransport::vacant(vec![in rt.alloc(); CELL; 16]?);
-    assert!(rt; t.make(2).is_ok());
+    let mut t: RingTransport<NumberClaim> = two(&rt, rt.alloc(), 16)?;
     one_order(&rt, &mut t)
 }
 
 #[test]
 fn a_switch_over_logs(rt: HostRuntime) -> Result<(), Fail> {
-    let mut t: LogTransport<NumberClaim> = LogTransport::vacant(vec![in rt.alloc(); CELL; 16]?);
-    assert!(rt; t.make(2).is_ok());
+    let mut t: LogTransport<NumberClaim> = two(&rt, rt.alloc(), 16)?;
     a_switch(&rt, &mut t)
 }
 

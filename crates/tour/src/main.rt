@@ -9,22 +9,15 @@ use ring::RingTransport;
 use sender_log::LogTransport;
 use transport::CellTransport;
 use transport_stop::carry;
-use wire::{ClaimRow, Content, FrameRow, NumberClaim, TicketNumber};
+use wire::{FrameRow, NumberClaim};
 use wire_stop::{damaged_block, number_claim, template_change};
-
-// What a cell holds at first does not matter.
-const CELL: FrameRow<ClaimRow> = FrameRow {
-    sender: 0,
-    clock: TicketNumber(0),
-    content: Content::Clock,
-};
 
 // Three printers over so many cells.
 fn over<T: CellTransport<Body = NumberClaim> + Drop>(
     rt: &HostRuntime,
     cells: usize,
 ) -> anyhow::Result<()> {
-    let mut t = T::vacant(vec![in rt.alloc(); CELL; cells]?);
+    let mut t = T::vacant(vec![in rt.alloc(); FrameRow::IDLE; cells]?);
     t.make(3).map_err(|_| anyhow!("the transport is not made"))?;
     carry(rt, &mut t)
 }

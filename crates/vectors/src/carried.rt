@@ -5,13 +5,7 @@ use std::alloc::Global;
 use std::process::Abort;
 use std::test::Fail;
 use transport::{CellTransport, Transport, TransportFault, TransportRefusal, drain};
-use wire::{ClaimRow, Content, FrameRow, NumberClaim, Payload, PrinterNumber, TicketNumber};
-
-const CELL: FrameRow<ClaimRow> = FrameRow {
-    sender: 0,
-    clock: TicketNumber(0),
-    content: Content::Clock,
-};
+use wire::{Content, FrameRow, NumberClaim, Payload, PrinterNumber, TicketNumber};
 
 // Posts a clock frame, and compares what the transport answers.
 fn posts<T: Transport<Body = NumberClaim>>(
@@ -88,7 +82,7 @@ fn over<T: CellTransport<Body = NumberClaim> + Drop>(
     cells: usize,
     refused: [u32; 2],
 ) -> Result<(), Fail> {
-    let mut t = T::vacant(vec![in heap; CELL; cells]?);
+    let mut t = T::vacant(vec![in heap; FrameRow::IDLE; cells]?);
     for n in refused {
         assert!(rt; t.make(n).is_err());
     }
