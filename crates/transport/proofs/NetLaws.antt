@@ -49,7 +49,7 @@ accepts_room t s j ha hj hh =
     go h a b p q = grind (arith, nat_tests)
 
 -- a post is accepted where one could be made
-accepts_spare : {B : Type 0} (t : Net B) (s : ℕ) → 1 ≤ t.limit → accepts t s ≡ ltb 0 (most_posts t s)
+pub accepts_spare : {B : Type 0} (t : Net B) (s : ℕ) → 1 ≤ t.limit → accepts t s ≡ ltb 0 (most_posts t s)
 accepts_spare t s l = both (ltb s t.size) _ _ (all t.size)
   where
     one : (h : Bool) (limit held : ℕ) → 1 ≤ limit → not (h && leb limit held) ≡ ltb 0 (cond h (limit - held) limit)
