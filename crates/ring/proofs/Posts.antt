@@ -1,13 +1,12 @@
 -- A post, receiver by receiver.
-use Rattle.std.proofs.Common.{◌≡◌, ℕ, ◌+◌, ◌<◌, Bool, true, false, cond, not, ◌&&◌, eqb, ltb, [], ◌∷◌, ◌++◌, length, sym, refl, ap, ◌∙◌, subst, ap₂, arith}
-use Rattle.std.proofs.lemmas.Bool.{and_parts, and_from, and_left, and_right, le-ltb, lt-ltb, cond-true, cond-false}
-use Rattle.std.proofs.lemmas.Bool.Decides.{nat_tests}
+use Rattle.std.proofs.Common.{◌≡◌, ℕ, ◌+◌, ◌<◌, Bool, true, false, cond, not, ◌&&◌, eqb, ltb, [], ◌∷◌, ◌++◌, length, sym, refl, ap, ◌∙◌, subst, ap₂}
+use Rattle.std.proofs.lemmas.Bool.{and_parts, and_from, and_right, lt-ltb, cond-true, cond-false}
 use Rattle.frame.specs.declared.Frame.{Frame}
 use Rattle.transport.specs.Members.{is_open_in, hears_in, reaches}
 use Rattle.transport.specs.declared.Members.{Members}
 use Rattle.transport.specs.Nets.{Net, hears, accepts, after_post}
 use Rattle.transport.proofs.NetLaws.{net_path, accepts_room}
-use Rattle.transport.proofs.TableLaws.{at_one}
+use Rattle.transport.proofs.TableLaws.{at_one, below_none, below_last, below_here, below_next, below_apart}
 use Rattle.ring.specs.Rings.{pushed}
 
 -- a post as far as the receivers below k
@@ -24,7 +23,7 @@ module _ {B : Type 0} (t : Net B) (f : Frame B) where
   pub part_none : part_posted t f 0 ≡ t
   part_none = net_path _ _ refl refl (λ j. refl) (λ i j.
       cond-false _ (t.waiting i j ++ f ∷ []) (t.waiting i j)
-      (and_right (eqb i f.sender.value) _ (and_left (ltb j 0) (accepts t i && hears t i j) (le-ltb j 0 (omega arith)))))
+      (below_none i j f.sender.value (accepts t i && hears t i j)))
 
   pub part_all : part_posted t f t.size ≡ after_post t f
   part_all = net_path _ _ refl refl (λ j. refl) (λ i j.
@@ -39,11 +38,7 @@ module _ {B : Type 0} (t : Net B) (f : Frame B) where
   pub part_skip : (k : ℕ) → hears t f.sender.value k ≡ false → part_posted t f k ≡ part_posted t f (k + 1)
   part_skip k h = net_path _ _ refl refl (λ j. refl) (λ i j.
       ap (λ b. cond b (t.waiting i j ++ f ∷ []) (t.waiting i j))
-      (still i j f.sender.value (accepts t i && hears t i j) (λ p q. and_right (accepts t i) _ (ap₂ (hears t) p q ∙ h))))
-    where
-      still : (i j s : ℕ) (x : Bool) → (i ≡ s → j ≡ k → x ≡ false) → (eqb i s && (ltb j k && x)) ≡ (eqb i s && (ltb j (k + 1) && x))
-      still i j s true ne = grind (arith, nat_tests)
-      still i j s false ne = grind (arith, nat_tests)
+      (below_next i j f.sender.value k (accepts t i && hears t i j) (λ p q. and_right (accepts t i) _ (ap₂ (hears t) p q ∙ h))))
 
   pub part_step : (k : ℕ) → accepts t f.sender.value ≡ true → hears t f.sender.value k ≡ true →
       pushed (part_posted t f k) f.sender.value k f ≡ part_posted t f (k + 1)
@@ -53,33 +48,21 @@ module _ {B : Type 0} (t : Net B) (f : Frame B) where
       s : ℕ
       s = f.sender.value
 
-      high : (x : Bool) → x ≡ true → (eqb s s && (ltb k (k + 1) && x)) ≡ true
-      high x e = grind (arith, nat_tests)
-
-      low : (x : Bool) → (eqb s s && (ltb k k && x)) ≡ false
-      low x = grind (arith, nat_tests)
-
       here : (part_posted t f (k + 1)).waiting s k ≡ (part_posted t f k).waiting s k ++ f ∷ []
       here =
-          cond-true _ _ _ (high (accepts t s && hears t s k) (and_from (accepts t s) (hears t s k) ha hh)) ∙
-          ap (λ w. w ++ f ∷ []) (sym (cond-false _ _ _ (low (accepts t s && hears t s k))))
-
-      same : (i j : ℕ) (x : Bool) → (i ≡ s → j ≡ k → ⊥) → (eqb i s && (ltb j (k + 1) && x)) ≡ (eqb i s && (ltb j k && x))
-      same i j x ne = grind (arith, nat_tests)
+          cond-true _ _ _ (below_here s k s k _ refl refl (and_from (accepts t s) (hears t s k) ha hh)) ∙
+          ap (λ w. w ++ f ∷ []) (sym (cond-false _ _ _ (below_last s k (accepts t s && hears t s k))))
 
       else : (i j : ℕ) → (i ≡ s → j ≡ k → ⊥) → (part_posted t f (k + 1)).waiting i j ≡ (part_posted t f k).waiting i j
-      else i j ne = ap (λ b. cond b (t.waiting i j ++ f ∷ []) (t.waiting i j)) (same i j (accepts t i && hears t i j) ne)
+      else i j ne = ap (λ b. cond b (t.waiting i j ++ f ∷ []) (t.waiting i j)) (below_apart i j s k (accepts t i && hears t i j) ne)
 
   -- where a post is accepted, each receiver still to come has room
   pub part_room : (k : ℕ) (m : Net B) → m ≡ part_posted t f k → k < t.size → hears m f.sender.value k ≡ true →
       accepts t f.sender.value ≡ true → length (m.waiting f.sender.value k) < m.limit
   part_room k m e hk hh ha =
       subst (λ x. length (x.waiting f.sender.value k) < x.limit) (sym e)
-      (subst (λ w. length w < t.limit) (sym (cond-false _ _ _ (low f.sender.value (accepts t f.sender.value && hears t f.sender.value k))))
+      (subst (λ w. length w < t.limit) (sym (cond-false _ _ _ (below_last f.sender.value k (accepts t f.sender.value && hears t f.sender.value k))))
       (accepts_room t f.sender.value k ha hk (sym (ap (λ x. hears x f.sender.value k) e) ∙ hh)))
-    where
-      low : (s : ℕ) (x : Bool) → (eqb s s && (ltb k k && x)) ≡ false
-      low s x = grind (arith, nat_tests)
 
 -- the pairs that hear a sender are reached
 pub hears_reaches : (m : Members) (s j : ℕ) → s < m.size → hears_in m s j ≡ true → reaches m s j ≡ true

@@ -1,6 +1,6 @@
 -- What a step on one ring does to what the rings mean.
 use Rattle.std.proofs.Common.{◌≡◌, ℕ, suc, ◌+◌, ◌-◌, ◌*◌, ◌/◌, ◌%◌, ◌<◌, Bool, true, cond, ◌&&◌, eqb, List, [], ◌∷◌, ◌++◌, length, get_or, set, Some, Option, sym, refl, ap, ap₂, ◌∙◌, arith}
-use lib.Arith.{digits_div, digits_mod}
+use lib.Arith.{digits_lt, digits_div, digits_mod}
 use Rattle.std.proofs.lemmas.List.{get_or-set_same, get_or-set_other}
 use Rattle.std.proofs.lemmas.Bool.{cond-true, cond-false}
 use Rattle.frame.specs.declared.Frame.{Frame}
@@ -19,6 +19,10 @@ use Rattle.transport.proofs.TableLaws.{at_one, pair_self, pair_apart}
 use Rattle.ring.specs.Circles.{empty_circle, Within}
 use Rattle.ring.specs.Rings.{cell, frame_at, circle_frames, ring_net, pushed}
 use Rattle.ring.specs.declared.circle.Circle.{Circle}
+
+-- the cells of a pair lie below those of all pairs
+pub cell_below : {i j p n limit : ℕ} → i < n → j < n → p < limit → (i * n + j) * limit + p < n * n * limit
+cell_below hi hj hp = digits_lt (digits_lt hi hj) hp
 
 -- equal cells have equal pairs and places
 pub cell_same : (n limit i j p a b q : ℕ) → j < n → b < n → p < limit → q < limit → cell n limit i j p ≡ cell n limit a b q →

@@ -7,7 +7,7 @@ ghost use Rattle.ring.specs.Meaning.{ring_meaning};
 use crate::ring::RingTransport;
 use body::Body;
 use frame::{Frame, Payload, PrinterNumber};
-use transport::{Transport, TransportFault, TransportRefusal};
+use transport::{Transport, TransportFault, judge_post};
 
 impl<B: Body> Transport for RingTransport<B> {
     type Body = B;
@@ -20,13 +20,8 @@ impl<B: Body> Transport for RingTransport<B> {
         ensures answer { result ≡ post_answer (ring_meaning B.remade self.old) sender.value }
         ensures after { ring_meaning B.remade self.new ≡ after_post (ring_meaning B.remade self.old) (record { sender = sender; payload = payload }) }
     {
-        if self.posts_left(sender.value) == 0 {
-            return Err(TransportFault {
-                refusal: TransportRefusal::PostRefused,
-                printer: sender.value,
-            });
-        }
-        self.push_all(Frame { sender, payload });
+        judge_post(self.posts_left(sender.value), sender.value)?;
+        self.append(Frame { sender, payload });
         Ok(())
     }
 

@@ -6,7 +6,7 @@ use crate::ring::RingTransport;
 use body::Body;
 
 impl<B: Body> RingTransport<B> {
-    // The cell of a place in the circle of a pair.
+    // The cell of a place in the circle of a pair. That the pair is there is asked: each caller has tested it.
     pub(crate) fn cell_index(&self, sender: u32, receiver: u32, place: usize) -> usize
         requires sender_there { sender < self.now.members.size }
         requires receiver_there { receiver < self.now.members.size }

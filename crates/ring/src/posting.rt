@@ -37,7 +37,7 @@ impl<B: Body> RingTransport<B> {
     }
 
     // A frame at the end of each pair that hears its sender.
-    pub(crate) fn push_all(&mut self, frame: Frame<B>)
+    pub(crate) fn append(&mut self, frame: Frame<B>)
         requires { accepts (ring_meaning B.remade self.old) frame.sender.value ≡ true }
         ensures { ring_meaning B.remade self.new ≡ after_post (ring_meaning B.remade self.old) frame }
     {

@@ -7,7 +7,7 @@ ghost use Rattle.sender_log.specs.Meaning.{log_meaning};
 use crate::log::LogTransport;
 use body::Body;
 use frame::{Frame, Payload, PrinterNumber};
-use transport::{Transport, TransportFault, TransportRefusal};
+use transport::{Transport, TransportFault, judge_post};
 
 impl<B: Body> Transport for LogTransport<B> {
     type Body = B;
@@ -20,12 +20,7 @@ impl<B: Body> Transport for LogTransport<B> {
         ensures answer { result ≡ post_answer (log_meaning B.remade self.old) sender.value }
         ensures after { log_meaning B.remade self.new ≡ after_post (log_meaning B.remade self.old) (record { sender = sender; payload = payload }) }
     {
-        if self.posts_left(sender.value) == 0 {
-            return Err(TransportFault {
-                refusal: TransportRefusal::PostRefused,
-                printer: sender.value,
-            });
-        }
+        judge_post(self.posts_left(sender.value), sender.value)?;
         self.append(Frame { sender, payload });
         Ok(())
     }

@@ -13,7 +13,7 @@ pub struct LogTransport<B: Body> {
     pub(crate) members: Members,
     // how many cells a log has
     pub(crate) limit: usize,
-    // where in its log each sender's next frame goes
+    // where in its log each sender's next frame goes: fixed memory, with a place for each printer number
     pub(crate) ends: [usize; 8],
     // how many frames a receiver is behind the end of a sender's log; it counts only where the receiver is open and
     // another printer

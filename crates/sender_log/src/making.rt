@@ -9,7 +9,7 @@ use frame::FrameRow;
 use transport::{CellTransport, Members, PairTable, TransportFault, fair_limit};
 
 impl<B: Body> LogTransport<B> {
-    // The logs of n printers, all empty and open.
+    // The logs of n printers, all empty and open. What it asks is what `fair_limit` tests for `make`, which answers any n.
     fn start(&mut self, n: u32, limit: usize)
         requires at_most_eight { n ≤ 8 }
         requires some_limit { 1 ≤ limit }

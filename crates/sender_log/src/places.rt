@@ -7,7 +7,8 @@ use body::Body;
 use transport::place_after;
 
 impl<B: Body> LogTransport<B> {
-    // The place of a receiver that is so many frames behind the end of the sender's log.
+    // The place of a receiver that is so many frames behind the end of the sender's log. That the sender is there is asked,
+    // here and below: each caller has tested it.
     pub(crate) fn cursor(&self, sender: u32, behind: usize) -> usize
         requires sender_there { sender < self.now.members.size }
         requires behind_within { behind ≤ self.now.limit }

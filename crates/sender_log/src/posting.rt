@@ -40,10 +40,10 @@ impl<B: Body> LogTransport<B> {
         ensures { log_meaning B.remade self.new ≡ after_post (log_meaning B.remade self.old) frame }
     {
         let sender = frame.sender.value;
-        fall_behind(&mut self.behinds, &self.members, sender);
         let end = self.ends[sender as usize];
         let at = self.cell_index(sender, end);
         self.cells[at] = frame.to_row();
         self.ends[sender as usize] = place_after(self.limit, end, 1);
+        fall_behind(&mut self.behinds, &self.members, sender);
     }
 }

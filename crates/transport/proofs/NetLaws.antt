@@ -1,10 +1,11 @@
 -- Meanings that are the same, and what the tests of a net tell.
-use Rattle.std.proofs.Common.{◌≡◌, ℕ, zero, suc, ◌+◌, ◌-◌, ◌<◌, ◌≤◌, min, Bool, true, false, cond, not, ◌&&◌, eqb, ltb, leb, length, sym, refl, ap, ◌∙◌, ap₂, inl, inr, add-one, arith}
+use Rattle.std.proofs.Common.{◌≡◌, ℕ, zero, suc, ◌+◌, ◌-◌, ◌<◌, ◌≤◌, min, Bool, true, false, cond, not, ◌&&◌, eqb, ltb, leb, length, Ok, Err, Result, sym, refl, ap, ◌∙◌, ap₂, inl, inr, add-one, arith}
 use mathlib.Core.Path.{fun_ext}
-use Rattle.std.proofs.lemmas.Bool.{and_parts, and_left, and_right, cases_eq, cond_both, eqb-true, ltb-true, lt-ltb, both_ways}
+use Rattle.std.proofs.lemmas.Bool.{and_parts, cases_eq, cond_both, eqb-true, ltb-true, lt-ltb, both_ways}
 use Rattle.std.proofs.lemmas.Bool.Decides.{nat_tests}
 use Rattle.frame.specs.declared.Frame.{Frame}
-use Rattle.transport.specs.Nets.{Net, all_below, least_below, accepts, hears, is_full, room, most_posts, after_post}
+use Rattle.transport.specs.Nets.{Net, all_below, least_below, accepts, hears, is_full, room, most_posts, post_judged, post_answer, after_post}
+use Rattle.transport.specs.declared.faults.TransportFault.{TransportFault}
 
 -- functions equal at every argument are equal
 pub net_path : {B : Type 0} (a b : Net B) → a.size ≡ b.size → a.limit ≡ b.limit → ((j : ℕ) → a.opened j ≡ b.opened j) →
@@ -17,17 +18,6 @@ all_below_at (suc n) p j h e =
     let q = and_parts (p n) (all_below n p) e in
     elim (cases_eq j n) [ inl r ↦ ap p r ∙ q.0 | inr r ↦ all_below_at n p j (omega arith) q.1 ]
 
-pub all_below_fails : (n : ℕ) (p : ℕ → Bool) (j : ℕ) → j < n → p j ≡ false → all_below n p ≡ false
-all_below_fails zero p j h e = absurd (let z : j < 0 = h in omega arith)
-all_below_fails (suc n) p j h e =
-    elim (cases_eq j n) [
-      | inl r ↦ and_left (p n) (all_below n p) (sym (ap p r) ∙ e)
-      | inr r ↦ and_right (p n) (all_below n p) (all_below_fails n p j (omega arith) e)
-    ]
-
-pub all_below_more : (n : ℕ) (p : ℕ → Bool) → all_below n p ≡ true → p n ≡ true → all_below (n + 1) p ≡ true
-all_below_more n p h e = rw add-one (ap₂ ◌&&◌ e h)
-
 pub least_below_more : (n : ℕ) (f : ℕ → ℕ) (most : ℕ) → least_below (n + 1) f most ≡ min (f n) (least_below n f most)
 least_below_more n f most = rw add-one refl
 
@@ -39,7 +29,7 @@ pub accepts_below : {B : Type 0} (t : Net B) (s : ℕ) → accepts t s ≡ true 
 accepts_below t s h = ltb-true s t.size (and_parts (ltb s t.size) _ h).0
 
 -- a post that is not accepted changes nothing
-pub post_refused : {B : Type 0} (t : Net B) (f : Frame B) → accepts t f.sender.value ≡ false → t ≡ after_post t f
+post_refused : {B : Type 0} (t : Net B) (f : Frame B) → accepts t f.sender.value ≡ false → t ≡ after_post t f
 post_refused t f h = net_path _ _ refl refl (λ j. refl) (λ i j.
     cond_both (eqb i f.sender.value && (accepts t i && hears t i j)) _ _ (λ z. t.waiting i j ≡ z)
     (λ e.
@@ -59,7 +49,7 @@ accepts_room t s j ha hj hh =
     go h a b p q = grind (arith, nat_tests)
 
 -- a post is accepted where one could be made
-accepts_spare : {B : Type 0} (t : Net B) (s : ℕ) → 1 ≤ t.limit → accepts t s ≡ ltb 0 (most_posts t s)
+pub accepts_spare : {B : Type 0} (t : Net B) (s : ℕ) → 1 ≤ t.limit → accepts t s ≡ ltb 0 (most_posts t s)
 accepts_spare t s l = both (ltb s t.size) _ _ (all t.size)
   where
     one : (h : Bool) (limit held : ℕ) → 1 ≤ limit → not (h && leb limit held) ≡ ltb 0 (cond h (limit - held) limit)
@@ -79,8 +69,24 @@ accepts_spare t s l = both (ltb s t.size) _ _ (all t.size)
     both true a x e = e
     both false a x e = refl
 
-pub accepts_none : {B : Type 0} (t : Net B) (s k : ℕ) → 1 ≤ t.limit → k ≡ most_posts t s → k ≡ 0 → accepts t s ≡ false
-accepts_none t s k l e z = accepts_spare t s l ∙ ap (ltb 0) (sym e ∙ z)
+-- a post whose judge was told how many are left
+module _ {B : Type 0} (t : Net B) (s left : ℕ) (limited : 1 ≤ t.limit) (told : left ≡ most_posts t s) where
+  pub judged_right : (r : Result Unit TransportFault) → r ≡ post_judged (ltb 0 left) s → r ≡ post_answer t s
+  judged_right r h = h ∙ ap (λ b. post_judged b s) (ap (ltb 0) told ∙ sym (accepts_spare t s limited))
 
-pub accepts_some : {B : Type 0} (t : Net B) (s k : ℕ) → 1 ≤ t.limit → k ≡ most_posts t s → (k ≡ 0 → ⊥) → accepts t s ≡ true
-accepts_some t s k l e z = accepts_spare t s l ∙ (ap (ltb 0) (sym e) ∙ lt-ltb 0 k (omega arith))
+  pub judged_accepts : Ok tt ≡ post_judged (ltb 0 left) s → accepts t s ≡ true
+  judged_accepts h = go (accepts t s) (judged_right (Ok tt) h)
+    where
+      go : (b : Bool) → Ok tt ≡ post_judged b s → b ≡ true
+      go true e = refl
+      go false e = absurd (cc)
+
+  judged_refuses : (e : TransportFault) → Err e ≡ post_judged (ltb 0 left) s → accepts t s ≡ false
+  judged_refuses e h = go (accepts t s) (judged_right (Err e) h)
+    where
+      go : (b : Bool) → Err e ≡ post_judged b s → b ≡ false
+      go true h = absurd (cc)
+      go false h = refl
+
+  pub judged_same : (f : Frame B) → f.sender.value ≡ s → (e : TransportFault) → Err e ≡ post_judged (ltb 0 left) s → t ≡ after_post t f
+  judged_same f p e h = post_refused t f (ap (accepts t) p ∙ judged_refuses e h)

@@ -1,5 +1,5 @@
 -- Tables of pairs, when one is made and when one is written.
-use Rattle.std.proofs.Common.{◌≡◌, ℕ, zero, suc, ◌+◌, ◌*◌, ◌<◌, true, false, subst, cond, ◌&&◌, eqb, List, length, get_or, set, replicate, sym, refl, ap, ◌∙◌, ap₂, inl, inr, arith}
+use Rattle.std.proofs.Common.{◌≡◌, ℕ, zero, suc, ◌+◌, ◌*◌, ◌<◌, Bool, true, false, subst, cond, ◌&&◌, eqb, ltb, List, length, get_or, set, replicate, sym, refl, ap, ◌∙◌, ap₂, inl, inr, arith}
 use Rattle.std.proofs.lemmas.List.{get_or-set_same, get_or-set_other, set_past}
 use Rattle.std.proofs.lemmas.Bool.{and_parts, and_from, eqb-true, eq-eqb, cases_eq, cases_lt, cond_both}
 use Rattle.std.proofs.lemmas.Bool.Decides.{nat_tests}
@@ -32,6 +32,24 @@ cond_pair i s j d x b c here else =
 pub at_one : {A : Type 0} (a b c : ℕ → ℕ → A) (s d : ℕ) → a s d ≡ b s d → ((i j : ℕ) → (i ≡ s → j ≡ d → ⊥) → a i j ≡ c i j) →
     (i j : ℕ) → a i j ≡ cond (eqb i s && eqb j d) (b i j) (c i j)
 at_one a b c s d here else i j = cond_pair i s j d _ _ _ (λ p q. ap₂ a p q ∙ (here ∙ sym (ap₂ b p q))) (else i j)
+
+-- a test of the pairs from s, as far as the receivers below k
+pub below_none : (i j s : ℕ) (x : Bool) → (eqb i s && (ltb j 0 && x)) ≡ false
+below_none i j s x = grind (arith, nat_tests)
+
+pub below_last : (s k : ℕ) (x : Bool) → (eqb s s && (ltb k k && x)) ≡ false
+below_last s k x = grind (arith, nat_tests)
+
+pub below_here : (i j s k : ℕ) (x : Bool) → i ≡ s → j ≡ k → x ≡ true → (eqb i s && (ltb j (k + 1) && x)) ≡ true
+below_here i j s k x p q e = grind (arith, nat_tests)
+
+-- one receiver more changes it only there, and only where the test holds
+pub below_next : (i j s k : ℕ) (x : Bool) → (i ≡ s → j ≡ k → x ≡ false) → (eqb i s && (ltb j k && x)) ≡ (eqb i s && (ltb j (k + 1) && x))
+below_next i j s k true ne = grind (arith, nat_tests)
+below_next i j s k false ne = grind (arith, nat_tests)
+
+pub below_apart : (i j s k : ℕ) (x : Bool) → (i ≡ s → j ≡ k → ⊥) → (eqb i s && (ltb j (k + 1) && x)) ≡ (eqb i s && (ltb j k && x))
+below_apart i j s k x ne = sym (below_next i j s k x (λ p q. absurd (ne p q)))
 
 -- a table of eight rows of eight, written at one pair
 pub written : {T : Type 0} (xs : List T) (none v : T) (s d : ℕ) → length xs ≡ 64 → s < 8 → d < 8 → (i j : ℕ) → j < 8 →

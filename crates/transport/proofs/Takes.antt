@@ -1,9 +1,10 @@
 -- One take after another.
 use Rattle.std.proofs.Common.{◌≡◌, ℕ, zero, suc, ◌+◌, ◌<◌, ◌≤◌, Bool, true, false, cond, ◌&&◌, eqb, List, [], ◌∷◌, length, drop, is_some, sym, refl, ap, ◌∙◌, ap₂, arith}
 use Rattle.std.proofs.lemmas.List.{drop-drop, drop_all}
-use Rattle.std.proofs.lemmas.Bool.{and_from, and_parts, eq-eqb, eqb-true, cond-true}
+use Rattle.std.proofs.lemmas.Bool.{and_parts, cond-true}
 use Rattle.transport.specs.Nets.{Net, first, rest, has, queue, oldest, after_take, after_takes}
 use Rattle.transport.proofs.NetLaws.{net_path}
+use Rattle.transport.proofs.TableLaws.{pair_true, pair_self}
 
 rest_drop : {A : Type 0} (k : ℕ) (xs : List A) → rest (drop k xs) ≡ drop (k + 1) xs
 rest_drop k xs = one (drop k xs) ∙ drop-drop 1 k xs
@@ -26,13 +27,6 @@ none_left (suc k) [] e = omega arith
 none_left (suc k) (x ∷ xs) e = let h = none_left k xs e in omega arith
 
 module _ {B : Type 0} (t : Net B) (s d : ℕ) where
-  pub takes_none : after_takes t s d 0 ≡ t
-  takes_none = net_path _ _ refl refl (λ j. refl) (λ i j. same ((eqb i s && eqb j d) && (has t i && has t j)) (t.waiting i j))
-    where
-      same : {A : Type 0} (b : Bool) (xs : List A) → cond b (drop 0 xs) xs ≡ xs
-      same true xs = refl
-      same false xs = refl
-
   pub takes_more : (k : ℕ) → after_take (after_takes t s d k) s d ≡ after_takes t s d (k + 1)
   takes_more k = net_path _ _ refl refl (λ j. refl) (λ i j. same ((eqb i s && eqb j d) && (has t i && has t j)) (t.waiting i j))
     where
@@ -41,7 +35,7 @@ module _ {B : Type 0} (t : Net B) (s d : ℕ) where
       same false xs = refl
 
   pub takes_queue : (k : ℕ) → queue (after_takes t s d k) s d ≡ drop k (queue t s d)
-  takes_queue k = same (has t s && has t d) (eqb s s && eqb d d) (and_from (eqb s s) (eqb d d) (eq-eqb s s refl) (eq-eqb d d refl)) (t.waiting s d)
+  takes_queue k = same (has t s && has t d) (eqb s s && eqb d d) (pair_self s d) (t.waiting s d)
     where
       drop_nil : {A : Type 0} (xs : List A) (n : ℕ) → xs ≡ [] → drop n xs ≡ []
       drop_nil xs n e = drop_all n xs (omega (arith, ap length e))
@@ -64,8 +58,8 @@ module _ {B : Type 0} (t : Net B) (s d : ℕ) where
       go i j false e = refl
       go i j true e =
           let p = and_parts (eqb i s && eqb j d) (has t i && has t j) e in
-          let q = and_parts (eqb i s) (eqb j d) p.0 in
+          let q = pair_true i s j d p.0 in
           let w : queue t s d ≡ t.waiting i j =
-          ap₂ (queue t) (sym (eqb-true i s q.0)) (sym (eqb-true j d q.1)) ∙ cond-true (has t i && has t j) _ _ p.1 in
+          ap₂ (queue t) (sym q.0) (sym q.1) ∙ cond-true (has t i && has t j) _ _ p.1 in
           let l : length (t.waiting i j) ≤ k = omega (arith, ap length w) in
           drop_all (k + 1) (t.waiting i j) (omega arith) ∙ sym (drop_all k (t.waiting i j) l)

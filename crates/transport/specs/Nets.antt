@@ -22,6 +22,10 @@ making_answer n limit =
     cond (nat_lt n 2 || nat_lt 8 n) (Err (record { refusal = PrinterCount; printer = 0 })) (
     cond (limit == 0) (Err (record { refusal = NoLimit; printer = 0 })) (Ok tt))
 
+-- what a post by s answers, where it is accepted or not
+abbrev pub post_judged : Bool → ℕ → Result (Unit {0}) TransportFault
+post_judged accepted s = cond accepted (Ok tt) (Err (record { refusal = PostRefused; printer = s }))
+
 -- a test that holds of each number below n
 abbrev pub all_below : ℕ → (ℕ → Bool) → Bool
 all_below zero p = true
@@ -59,7 +63,7 @@ module _ {B : Type 0} (t : Net B) where
   accepts s = has s && all_below t.size (λ j. not (hears s j && is_full s j))
 
   abbrev pub post_answer : ℕ → Result (Unit {0}) TransportFault
-  post_answer s = cond (accepts s) (Ok tt) (Err (record { refusal = PostRefused; printer = s }))
+  post_answer s = post_judged (accepts s) s
 
   -- a frame at the end of the pairs from its sender to every other open printer, if its sender may post
   abbrev pub after_post : Frame B → Net B

@@ -4,6 +4,7 @@
 mod cells;
 mod draining;
 mod faults;
+mod judging;
 mod limits;
 mod meaning;
 mod members;
@@ -15,6 +16,7 @@ mod storing;
 pub use cells::CellTransport;
 pub use draining::drain;
 pub use faults::{Layer, TransportFault, TransportRefusal};
+pub use judging::judge_post;
 pub use limits::fair_limit;
 pub use meaning::Transport;
 pub use members::Members;

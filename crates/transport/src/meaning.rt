@@ -1,5 +1,5 @@
 // A transport, known by what it means.
-ghost use Rattle.std.specs.Prelude.{◌≡◌, ℕ, ◌≤◌};
+ghost use Rattle.std.specs.Prelude.{◌≡◌, ◌≤◌};
 ghost use Rattle.transport.specs.Nets.{Net, post_answer, after_post, oldest, after_take, after_close, most_posts, is_open};
 
 use crate::faults::TransportFault;

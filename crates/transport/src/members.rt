@@ -1,7 +1,8 @@
 // Which printers there are, and which of them are open.
 ghost use Rattle.std.specs.Prelude.{◌≤◌};
 
-// The printers of a hall, at most eight. The flag of a printer that there is not counts for nothing.
+// The printers of a hall, at most eight. The flag of a printer that there is not counts for nothing: fixed memory has a
+// place for each printer number.
 #[derive(Drop)]
 pub struct Members {
     size: u32,
@@ -14,7 +15,8 @@ impl Members {
     ghost use Rattle.transport.specs.Members.{opened, is_open_in, hears_in, reaches};
     ghost use Rattle.transport.specs.Nets.{least_below};
 
-    // So many printers, all open.
+    // So many printers, all open. That they are few is asked: the making of a transport has tested it (`fair_limit`), and
+    // answers any number.
     pub fn all_open(size: u32) -> Members
         requires { size ≤ 8 }
         ensures size { result.size ≡ size }

@@ -5,6 +5,7 @@ ghost use Rattle.transport.specs.Stored.{idle, stored};
 use body::Body;
 use frame::{Content, Frame, FrameRow, Payload, PrinterNumber, TicketNumber};
 
+#[tactic(auto, using(crate::proofs::StoredLaws::same_frame))]
 fn idle_frame<B: Body>() -> Frame<B>
     ensures { result ≡ idle }
 {

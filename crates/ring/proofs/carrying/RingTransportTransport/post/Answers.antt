@@ -1,29 +1,26 @@
-use Rattle.std.proofs.Common.{sym}
-use Rattle.std.proofs.lemmas.Bool.{cond-true, cond-false}
-use Rattle.transport.proofs.NetLaws.{post_refused, accepts_none, accepts_some}
+use Rattle.std.proofs.Common.{Err, refl, ap, ◌∙◌}
+use Rattle.std.proofs.lemmas.Result.{err_from_is_err_and}
+use Rattle.transport.proofs.NetLaws.{judged_right, judged_accepts, judged_same}
 use Rattle.ring.specs.Meaning.{ring_meaning}
 use Rattle.ring.proofs.carrying.RingTransportTransport.post.Goals as goal
 
-pub returns-then-posts_left-eq0 : goal.returns-then-posts_left-eq0
-returns-then-posts_left-eq0 g c =
+pub returns-in_err-judge_post-clause-answer : goal.returns-in_err-judge_post-clause-answer
+returns-in_err-judge_post-clause-answer g c =
     let t = c.args.self.now in
-    let m = ring_meaning g.B.Body.remade t in
-    let full = accepts_none m c.args.sender.value _ t.limit_ok c.posts_left.ensures c.if-posts_left-eq0.true in
-    record {
-      answer = sym (cond-false _ _ _ full);
-      after = post_refused m (record { sender = c.args.sender; payload = c.args.payload }) full;
-    }
+    let p = err_from_is_err_and c.from_residual.result c.from_residual.ensures.1 in
+    p.1 ∙ (ap Err p.2 ∙ judged_right (ring_meaning g.B.Body.remade t) _ _ t.limit_ok c.posts_left.ensures _ c.in_err-judge_post.ensures)
 
-pub push_all-requires : goal.push_all-requires
-push_all-requires g c =
+pub returns-in_err-judge_post-clause-after : goal.returns-in_err-judge_post-clause-after
+returns-in_err-judge_post-clause-after g c =
     let t = c.args.self.now in
-    accepts_some (ring_meaning g.B.Body.remade t) c.args.sender.value _ t.limit_ok c.posts_left.ensures c.if-posts_left-eq0.false
+    judged_same (ring_meaning g.B.Body.remade t) _ _ t.limit_ok c.posts_left.ensures _ refl _ c.in_err-judge_post.ensures
 
-pub returns : goal.returns
-returns g c =
+pub append-requires : goal.append-requires
+append-requires g c =
     let t = c.args.self.now in
-    let fits = accepts_some (ring_meaning g.B.Body.remade t) c.args.sender.value _ t.limit_ok c.posts_left.ensures c.if-posts_left-eq0.false in
-    record {
-      answer = sym (cond-true _ _ _ fits);
-      after = c.push_all.ensures;
-    }
+    judged_accepts (ring_meaning g.B.Body.remade t) _ _ t.limit_ok c.posts_left.ensures c.in_ok-judge_post.ensures
+
+pub returns-clause-answer : goal.returns-clause-answer
+returns-clause-answer g c =
+    let t = c.args.self.now in
+    judged_right (ring_meaning g.B.Body.remade t) _ _ t.limit_ok c.posts_left.ensures _ c.in_ok-judge_post.ensures

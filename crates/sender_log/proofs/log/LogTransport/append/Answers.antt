@@ -14,18 +14,6 @@ invariant_of-self g c =
     record {
       limit_ok = t.limit_ok;
       cells_ok = t.cells_ok;
-      ends_ok = t.ends_ok;
-      behinds_ok = log_within (stored g.B.Body.remade) t.members t.limit t.ends t.behinds (vec_items t.cells) c.fall_behind.new.behinds s
-          t.behinds_ok (further_all t.members t.behinds c.fall_behind.new.behinds s c.fall_behind.ensures) c.requires;
-    }
-
-pub invariant_of-self-2 : goal.invariant_of-self-2
-invariant_of-self-2 g c =
-    let t = c.args.self.now in
-    let s = c.args.frame.sender.value in
-    record {
-      limit_ok = t.limit_ok;
-      cells_ok = t.cells_ok;
       ends_ok = after_set (λ x. x < t.limit) t.ends s _ c.place_after.ensures.within t.ends_ok;
       behinds_ok = log_within (stored g.B.Body.remade) t.members t.limit t.ends t.behinds (vec_items t.cells) c.fall_behind.new.behinds s
           t.behinds_ok (further_all t.members t.behinds c.fall_behind.new.behinds s c.fall_behind.ensures) c.requires;

@@ -7,8 +7,8 @@ use Rattle.ring.specs.Meaning.{ring_meaning}
 use Rattle.ring.specs.Rings.{pushed}
 use Rattle.ring.proofs.Steps.{ring_waits}
 use Rattle.ring.proofs.Posts.{part_posted, part_none, part_all, part_skip, part_step, part_room, hears_reaches}
-use Rattle.ring.proofs.ring.RingTransport.push_all.Goals as goal
-use Rattle.ring.proofs.ring.RingTransport.push_all.Goals.{then-hears, else-hears}
+use Rattle.ring.proofs.ring.RingTransport.append.Goals as goal
+use Rattle.ring.proofs.ring.RingTransport.append.Goals.{then-hears, else-hears}
 
 pub loop-receiver-init : goal.loop-receiver-init
 loop-receiver-init g c =

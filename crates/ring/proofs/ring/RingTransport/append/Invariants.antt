@@ -2,7 +2,7 @@ use Rattle.std.proofs.Common.{◌≡◌}
 use Rattle.transport.specs.Stored.{stored}
 use Rattle.ring.specs.Meaning.{ring_meaning}
 use Rattle.ring.proofs.Posts.{part_posted}
-use Rattle.ring.proofs.ring.RingTransport.push_all.Given as goal
+use Rattle.ring.proofs.ring.RingTransport.append.Given as goal
 
 abbrev pub invariant-loop-receiver : goal.invariant-loop-receiver
 invariant-loop-receiver g l =
