@@ -25,5 +25,30 @@ sound t = record {
   owes = t.owes_ok;
 }
 
+-- the same under the names of a table's ghost fields, with the bound of the list
+abbrev pub Kept : ℕ → Printer → Type 0
+Kept me p = record {
+  length_ok : p.length ≤ 65536;
+  sequencer_ok : p.duty.sequencer.0 ≤ 7;
+  turn_ok : p.duty.turn ≤ 8;
+  roles_ok : (a : ℕ) → (p.conf a).role.0 ≤ p.length;
+  messages_ok : (x : ℕ) → (p.holding.messages x).passed ≤ p.length;
+  tickets_ok : (b : ℕ) → (p.holding.tickets b).passed ≤ p.length;
+  own_ok : (p.holding.messages me).count ≤ 7;
+  owes_ok : p.duty.owes ≡ true → 1 ≤ (p.holding.messages me).count;
+}
+
+pub kept : {me : ℕ} {p : Printer} → p.length ≤ 65536 → Sound me p → Kept me p
+kept l s = record {
+  length_ok = l;
+  sequencer_ok = s.sequencer;
+  turn_ok = s.turn;
+  roles_ok = s.roles;
+  messages_ok = s.messages;
+  tickets_ok = s.tickets;
+  own_ok = s.own;
+  owes_ok = s.owes;
+}
+
 pub number_small : (t : PrinterTable) → t.me.value ≤ 7
 number_small t = leb-true t.me.value 7 t.me.ok

@@ -5,7 +5,7 @@ use Rattle.backlog.specs.Holdings.{holding_of}
 use Rattle.table.specs.Passing.{passed_on}
 use Rattle.table.specs.Printers.{Printer, printer_of, hearing_of}
 use Rattle.table.proofs.Deliveries.{delivered, passed_sound}
-use Rattle.table.proofs.Sound.{Sound, sound, number_small}
+use Rattle.table.proofs.Sound.{Sound, sound, kept, number_small}
 use Rattle.table.proofs.table.PrinterTable.deliver.Goals as goal
 use Rattle.table.proofs.table.PrinterTable.deliver.Goals.{After-rule, at-returns}
 
@@ -34,16 +34,7 @@ invariant_of-self c =
     let t = c.args.self.now in
     let s = subst (Sound t.me.value) (sym (is-after c))
     (passed_sound (length c.args.delays.now.row.now) (delay_in c.args.delays.now.row.now) t.me.value (printer_of t) c.args.ticket c.args.delays.now.few (number_small t) (sound t)) in
-    record {
-      length_ok = omega arith;
-      sequencer_ok = s.sequencer;
-      turn_ok = s.turn;
-      roles_ok = s.roles;
-      messages_ok = s.messages;
-      tickets_ok = s.tickets;
-      own_ok = s.own;
-      owes_ok = s.owes;
-    }
+    kept (omega arith) s
 
 pub returns : goal.returns
 returns c = record { table = is-after (at-returns c).After-rule; me = refl }
