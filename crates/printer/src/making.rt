@@ -40,8 +40,7 @@ pub(crate) fn has_role(kind: RecordKind, state: PrinterState) -> bool
 
 // The number of the next own message, and the sequencer that it is assigned to.
 fn next_message(table: &PrinterTable) -> (MessageNumber, (u32, RoleNumber))
-    ensures number { result.0 ≡ next_number table.now.me.value (printer_of table.now) }
-    ensures assigned { result.1 ≡ table.now.duty.sequencer }
+    ensures answer { result ≡ (next_number table.now.me.value (printer_of table.now), table.now.duty.sequencer) }
     ensures in_range { assigned_ok result.0 result.1.0 result.1.1 ≡ true }
 {
     let row = &table.backlog.messages[table.me.index()];

@@ -28,7 +28,7 @@ is-after : (c : goal.After-hold_message) → after c ≡ held_own c.args.kind c.
 is-after c =
     let t = c.args.table.now in
     printer_path _ _ refl (ap (duty_in t.duty) c.state_made-table.ensures) refl
-    (c.hold_message.ensures ∙ (λ i. hold_message (holding_of t.backlog) t.me.value (c.next_message.ensures.number i).0 (record { kind = c.args.kind; assigned = c.next_message.ensures.assigned i }))) refl
+    (c.hold_message.ensures ∙ ap (λ m. hold_message (holding_of t.backlog) t.me.value m.0.0 (record { kind = c.args.kind; assigned = m.1 })) c.next_message.ensures.answer) refl
 
 pub invariant_of-table : goal.invariant_of-table
 invariant_of-table c =
