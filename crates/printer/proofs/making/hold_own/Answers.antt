@@ -5,7 +5,7 @@ use Rattle.table.specs.Printers.{Printer, printer_of, hearing_of}
 use Rattle.table.specs.declared.Duty.{Duty}
 use Rattle.table.specs.declared.PrinterState.{PrinterState}
 use Rattle.table.proofs.Paths.{printer_path}
-use Rattle.table.proofs.Sound.{Sound, sound, kept}
+use Rattle.table.proofs.Sound.{Sound, sound}
 use Rattle.printer.specs.Making.{held_own}
 use Rattle.printer.proofs.Holds.{held_own_sound}
 use Rattle.printer.proofs.making.hold_own.Goals as goal
@@ -33,5 +33,4 @@ is-after c =
 pub invariant_of-table : goal.invariant_of-table
 invariant_of-table c =
     let t = c.args.table.now in
-    let s = subst (Sound t.me.value) (sym (is-after c)) (held_own_sound c.args.kind t.me.value (printer_of t) c.requires (sound t)) in
-    kept t.length_ok s
+    subst (Sound t.me.value) (sym (is-after c)) (held_own_sound c.args.kind t.me.value (printer_of t) c.requires (sound t))

@@ -1,11 +1,11 @@
-use Rattle.std.proofs.Common.{◌≡◌, ◌+◌, length, sym, refl, ap, ◌∙◌, subst, arith}
+use Rattle.std.proofs.Common.{◌≡◌, ◌+◌, length, sym, refl, ap, ◌∙◌, subst}
 use Rattle.roles.specs.Configurations.{conf_of, changed}
 use Rattle.roles.specs.Nearest.{delay_in}
 use Rattle.backlog.specs.Holdings.{holding_of}
 use Rattle.table.specs.Passing.{passed_on}
 use Rattle.table.specs.Printers.{Printer, printer_of, hearing_of}
 use Rattle.table.proofs.Deliveries.{delivered, passed_sound}
-use Rattle.table.proofs.Sound.{Sound, sound, kept, number_small}
+use Rattle.table.proofs.Sound.{Sound, sound, number_small}
 use Rattle.table.proofs.table.PrinterTable.deliver.Goals as goal
 use Rattle.table.proofs.table.PrinterTable.deliver.Goals.{After-rule, at-returns}
 
@@ -32,9 +32,8 @@ is-after c =
 pub invariant_of-self : goal.invariant_of-self
 invariant_of-self c =
     let t = c.args.self.now in
-    let s = subst (Sound t.me.value) (sym (is-after c))
-    (passed_sound (length c.args.delays.now.row.now) (delay_in c.args.delays.now.row.now) t.me.value (printer_of t) c.args.ticket c.args.delays.now.few (number_small t) (sound t)) in
-    kept (omega arith) s
+    subst (Sound t.me.value) (sym (is-after c))
+    (passed_sound (length c.args.delays.now.row.now) (delay_in c.args.delays.now.row.now) t.me.value (printer_of t) c.args.ticket c.args.delays.now.few (number_small t) c.requires.length_bound (sound t))
 
 pub returns : goal.returns
 returns c = record { table = is-after (at-returns c).After-rule; me = refl }

@@ -1,4 +1,4 @@
-use Rattle.std.proofs.Common.{◌≡◌, ◌+◌, length, sym, refl, ap, ◌∙◌, subst, arith}
+use Rattle.std.proofs.Common.{◌≡◌, ◌+◌, length, sym, refl, ap, ◌∙◌, subst}
 use Rattle.roles.specs.Configurations.{conf_of, changed}
 use Rattle.roles.specs.declared.RecordKind.TheVariants.{Gone}
 use Rattle.roles.specs.Nearest.{delay_in}
@@ -6,7 +6,7 @@ use Rattle.backlog.specs.Holdings.{holding_of}
 use Rattle.table.specs.Departures.{bereft}
 use Rattle.table.specs.Printers.{Printer, printer_of, hearing_of}
 use Rattle.table.proofs.Leavings.{bereaved, bereft_sound}
-use Rattle.table.proofs.Sound.{Sound, sound, kept, number_small}
+use Rattle.table.proofs.Sound.{Sound, sound, number_small}
 use Rattle.table.proofs.table.PrinterTable.depart.Goals as goal
 use Rattle.table.proofs.table.PrinterTable.depart.Goals.{After-rule, at-returns}
 
@@ -33,9 +33,8 @@ is-after c =
 pub invariant_of-self : goal.invariant_of-self
 invariant_of-self c =
     let t = c.args.self.now in
-    let s = subst (Sound t.me.value) (sym (is-after c))
-    (bereft_sound (length c.args.delays.now.row.now) (delay_in c.args.delays.now.row.now) t.me.value (printer_of t) c.args.leaver.value c.args.delays.now.few (number_small t) (sound t)) in
-    kept (omega arith) s
+    subst (Sound t.me.value) (sym (is-after c))
+    (bereft_sound (length c.args.delays.now.row.now) (delay_in c.args.delays.now.row.now) t.me.value (printer_of t) c.args.leaver.value c.args.delays.now.few (number_small t) c.requires (sound t))
 
 pub returns : goal.returns
 returns c = record { table = is-after (at-returns c).After-rule; me = refl }
