@@ -29,7 +29,7 @@ pub accepts_below : {B : Type 0} (t : Net B) (s : ℕ) → accepts t s ≡ true 
 accepts_below t s h = ltb-true s t.size (and_parts (ltb s t.size) _ h).0
 
 -- a post that is not accepted changes nothing
-post_refused : {B : Type 0} (t : Net B) (f : Frame B) → accepts t f.sender.value ≡ false → t ≡ after_post t f
+pub post_refused : {B : Type 0} (t : Net B) (f : Frame B) → accepts t f.sender.value ≡ false → t ≡ after_post t f
 post_refused t f h = net_path _ _ refl refl (λ j. refl) (λ i j.
     cond_both (eqb i f.sender.value && (accepts t i && hears t i j)) _ _ (λ z. t.waiting i j ≡ z)
     (λ e.
