@@ -74,10 +74,6 @@ message_at h x k = (h.messages x).slot (k % 8)
 abbrev pub hold_message : Holding → ℕ → ℕ → Held → Holding
 hold_message h x k m = with_messages h (put h.messages x (stored (h.messages x) (k % 8) m))
 
--- ticket m of issuer b, of all those that it issued
-abbrev pub stub_at : Holding → ℕ → ℕ → Stub
-stub_at h b m = (h.tickets b).slot (m % 16)
-
 abbrev pub hold_ticket : Holding → ℕ → Stub → Holding
 hold_ticket h b s = with_tickets h (put h.tickets b (stored (h.tickets b) (((h.tickets b).passed + (h.tickets b).count) % 16) s))
 

@@ -1,7 +1,8 @@
 // All that a printer holds.
 use crate::rows::{MessageRow, TicketRow};
 
-// The messages held of each sender, and the tickets held of each issuer.
+// The messages held of each sender, and the tickets held of each issuer: a row for each number that a printer can have,
+// in fixed memory.
 #[derive(Clone, Copy)]
 pub struct Backlog {
     pub messages: [MessageRow; 8],

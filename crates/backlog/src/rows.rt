@@ -17,7 +17,7 @@ pub struct Row<T, const N: usize> {
     ghost low: { passed ≤ 65536 },
 }
 
-// By hand: the derive does not cover a generic struct with ghost fields.
+// By hand: neither `derive` nor `derive_where` covers a generic struct with ghost fields.
 impl<T: Copy, const N: usize> Clone for Row<T, N> {
     ghost is_clone = { λ given copy. copy ≡ given };
 
@@ -40,7 +40,9 @@ pub struct Held {
 pub type MessageRow = Row<Held, 8>;
 
 // What is kept of a ticket in its issuer's row. Sender and number of a message stay two, here and in what is asked of a
-// backlog: one picks the row, the other the place in it, and a struct would be taken apart at each use.
+// backlog: one picks the row, the other the place in it, and a struct would be taken apart at each use. The sender, and
+// the issuer of a ticket, are plain numbers: the order of tickets is defined of all numbers, and who needs a printer
+// tests and makes one.
 #[derive(Clone, Copy)]
 pub struct Stub {
     pub number: TicketNumber,

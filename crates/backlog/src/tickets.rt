@@ -1,5 +1,5 @@
-// The held tickets.
-ghost use Rattle.std.specs.Prelude.{◌≡◌, ◌%◌, ◌<◌, ◌≤◌, IfSome};
+// The held tickets. Chains go over `0..count`, since the definitions count issuers by number.
+ghost use Rattle.std.specs.Prelude.{◌≡◌, ◌<◌, ◌≤◌, IfSome};
 ghost use Rattle.backlog.specs.Holdings.{holding_of, ticket_row};
 ghost use Rattle.backlog.specs.Tickets.{is_for, before, lesser, first_or, first_ticket, names, ticketed, tickets_held};
 
@@ -12,7 +12,7 @@ impl Ticket {
     fn is_before(self, other: Ticket) -> bool
         ensures { result ≡ before self other }
     {
-        self.number < other.number || (self.number == other.number && self.issuer < other.issuer)
+        (self.number, self.issuer) < (other.number, other.issuer)
     }
 
     // The one that stands first.

@@ -10,7 +10,8 @@ use roles::RecordKind;
 use std::ops::Range;
 
 impl Backlog {
-    // Whether a message is assigned to this sequencer and has no ticket.
+    // Whether a message is assigned to this sequencer and has no ticket. `count` and `to` go from function to function as
+    // two: one caller asks with them, for itself, and they are no value of their own.
     fn wants(
         &self,
         count: PrinterCount,

@@ -1,5 +1,5 @@
 // One line of a dump: its body kind and its block.
-ghost use Rattle.std.specs.Prelude.{◌≡◌, vec_items};
+ghost use Rattle.std.specs.Prelude.{vec_items};
 ghost use Rattle.dump.specs.Lines.{block_after, of_kind, text_means, line_means, contents};
 ghost use Rattle.dump.specs.Reads.{Reads};
 

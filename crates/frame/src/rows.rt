@@ -7,7 +7,8 @@ use crate::frame::Frame;
 use crate::frame_row::FrameRow;
 use body::Body;
 
-// This match and the next stay two: one may fail, and a function over both by a closure would need a match for each.
+// This match and the next stay two: one function for both would take what it does to a body as a closure, and the check
+// does not cover `B::from_row` as one, whose result names a type that its argument does not.
 fn content_to_row<B: Body>(content: Content<B>) -> Content<B::Row>
     ensures { result ≡ content_row B.Body.row content }
 {

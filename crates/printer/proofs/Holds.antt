@@ -24,13 +24,14 @@ pub held_own_sound : (kind : RecordKind) (me : ℕ) (p : Printer) → undelivere
 held_own_sound kind me p few s =
     let own = ap (λ (r : Row Held). r.count) (put_same p.holding.messages me ((held_own kind me p).holding.messages me)) in
     record {
-      sequencer = s.sequencer;
-      turn = s.turn;
-      roles = s.roles;
-      messages = stored_passed p.holding.messages me _ p.length _ s.messages;
-      tickets = s.tickets;
-      own = grind (arith, nat_tests);
-      owes = λ _. grind (arith, nat_tests);
+      length_ok = s.length_ok;
+      sequencer_ok = s.sequencer_ok;
+      turn_ok = s.turn_ok;
+      roles_ok = s.roles_ok;
+      messages_ok = stored_passed p.holding.messages me _ p.length _ s.messages_ok;
+      tickets_ok = s.tickets_ok;
+      own_ok = grind (arith, nat_tests);
+      owes_ok = λ _. grind (arith, nat_tests);
     }
 
 -- a printer with another holding and another part
@@ -41,23 +42,25 @@ changed_to p d h = record { clocks = p.clocks; duty = d; conf = p.conf; holding 
 pub issued_sound : (me x : ℕ) (k : MessageNumber) (p : Printer) (h : Holding) → x < 8 → h ≡ (issued me x k p).holding → Sound me p →
     Sound me (changed_to p (issued me x k p).duty h)
 issued_sound me x k p h small e s = subst (λ g. Sound me (changed_to p (issued me x k p).duty g)) (sym e) (record {
-  sequencer = s.sequencer;
-  turn = omega arith;
-  roles = s.roles;
-  messages = s.messages;
-  tickets = stored_passed p.holding.tickets me _ p.length _ s.tickets;
-  own = s.own;
-  owes = s.owes;
+  length_ok = s.length_ok;
+  sequencer_ok = s.sequencer_ok;
+  turn_ok = omega arith;
+  roles_ok = s.roles_ok;
+  messages_ok = s.messages_ok;
+  tickets_ok = stored_passed p.holding.tickets me _ p.length _ s.tickets_ok;
+  own_ok = s.own_ok;
+  owes_ok = s.owes_ok;
 })
 
 -- and so does one that pays its debt
 pub repaid_sound : (me : ℕ) (p : Printer) (h : Holding) → h ≡ (repaid me p).holding → Sound me p → Sound me (changed_to p (repaid me p).duty h)
 repaid_sound me p h e s = subst (λ g. Sound me (changed_to p (repaid me p).duty g)) (sym e) (record {
-  sequencer = s.sequencer;
-  turn = s.turn;
-  roles = s.roles;
-  messages = λ y. grind (arith, nat_tests, s.messages y, s.messages me);
-  tickets = s.tickets;
-  own = grind (arith, nat_tests, s.own);
-  owes = λ f. absurd (false≢true f);
+  length_ok = s.length_ok;
+  sequencer_ok = s.sequencer_ok;
+  turn_ok = s.turn_ok;
+  roles_ok = s.roles_ok;
+  messages_ok = λ y. grind (arith, nat_tests, s.messages_ok y, s.messages_ok me);
+  tickets_ok = s.tickets_ok;
+  own_ok = grind (arith, nat_tests, s.own_ok);
+  owes_ok = λ f. absurd (false≢true f);
 })

@@ -1,15 +1,13 @@
 -- What a transport's answer to a post tells.
-use Rattle.std.proofs.Common.{◌≡◌, ℕ, Bool, true, false, cond, Some, None, Ok, Err, Option, Result, sym, refl, ap, ◌∙◌}
-use Rattle.frame.specs.declared.Content.{Content}
+use Rattle.std.proofs.Common.{◌≡◌, ℕ, Bool, true, false, cond, Some, None, Ok, Err, Option, Result, sym, refl, ap}
 use Rattle.frame.specs.declared.Frame.{Frame}
 use Rattle.frame.proofs.Parts.{frame_of_self}
 use Rattle.transport.specs.Nets.{Net, accepts, post_answer, after_post}
 use Rattle.transport.specs.Stored.{or_idle}
 use Rattle.transport.specs.declared.TransportFault.{TransportFault}
 use Rattle.transport.proofs.NetLaws.{post_refused}
-use Rattle.table.specs.Printers.{Printer}
 use Rattle.printer.specs.Answers.{Answer, unless}
-use Rattle.printer.specs.Posts.{frame_from, own_frame}
+use Rattle.printer.specs.Posts.{frame_from}
 use Rattle.refusals.specs.declared.PrinterFault.{PrinterFault}
 use Rattle.refusals.specs.declared.PrinterRefusal.{PrinterRefusal}
 
@@ -29,8 +27,3 @@ refused_same t f e h = sym (post_refused t f (not_accepted (accepts t f.sender.v
 pub refused_unless : (me : ℕ) (o : Option PrinterRefusal) (a : Answer) (f : PrinterFault) → Err f ≡ unless me o (Ok tt) → Err f ≡ unless me o a
 refused_unless me None a f e = cc
 refused_unless me (Some r) a f e = e
-
--- another name of the content, posted if so told
-pub posted_same : {B : Type 0} (x t : Net B) (b : Bool) (me : ℕ) (p : Printer) (c d : Content B) → c ≡ d →
-    x ≡ cond b (after_post t (own_frame me p c)) t → x ≡ cond b (after_post t (own_frame me p d)) t
-posted_same x t b me p c d e h = h ∙ ap (λ c. cond b (after_post t (own_frame me p c)) t) e

@@ -49,11 +49,12 @@ received_sound me x f p h d e s =
     let c = f.payload.content in
     let row = other_row x p.holding k c me (λ z. d (sym z)) in
     subst (λ g. Sound me (changed_to p p.duty g)) (sym e) (record {
-      sequencer = s.sequencer;
-      turn = s.turn;
-      roles = s.roles;
-      messages = messages_kept x p.holding p.length k c s.messages;
-      tickets = tickets_kept x p.holding p.length k c s.tickets;
-      own = subst (λ (r : Row Held). r.count ≤ 7) row s.own;
-      owes = λ o. subst (λ (r : Row Held). 1 ≤ r.count) row (s.owes o);
+      length_ok = s.length_ok;
+      sequencer_ok = s.sequencer_ok;
+      turn_ok = s.turn_ok;
+      roles_ok = s.roles_ok;
+      messages_ok = messages_kept x p.holding p.length k c s.messages_ok;
+      tickets_ok = tickets_kept x p.holding p.length k c s.tickets_ok;
+      own_ok = subst (λ (r : Row Held). r.count ≤ 7) row s.own_ok;
+      owes_ok = λ o. subst (λ (r : Row Held). 1 ≤ r.count) row (s.owes_ok o);
     })

@@ -2,6 +2,7 @@
 #![tactic(auto)]
 
 mod changing;
+mod leaving;
 mod making;
 mod opening;
 mod posting;

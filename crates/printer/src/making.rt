@@ -1,13 +1,13 @@
 // Making messages.
-ghost use Rattle.std.specs.Prelude.{◌≡◌, ◌<◌, ◌≤◌, true, is_ok, if◌then◌else◌, Ok, slice_set};
+ghost use Rattle.std.specs.Prelude.{◌≡◌, ◌<◌, true, is_ok, if◌then◌else◌, Ok, slice_set};
 ghost use Rattle.frame.specs.Ranges.{assigned_ok, content_ok};
 ghost use Rattle.transport.specs.Nets.{after_post};
 ghost use Rattle.table.specs.Printers.{printer_of};
 ghost use Rattle.table.specs.Records.{shelf_place};
 ghost use Rattle.roles.specs.declared.RecordKind.TheVariants.{Data, Up, Down};
 ghost use Rattle.printer.specs.Answers.{unless};
-ghost use Rattle.printer.specs.Making.{is_switching, has_role, minds_debt, undelivered, next_number, make_refusal, make_answer, state_made, held_own, made, data_content, up_content, down_content};
-ghost use Rattle.printer.specs.Posts.{frame_from, own_frame, posting_answer};
+ghost use Rattle.printer.specs.Making.{is_switching, has_role, undelivered, next_number, make_refusal, make_answer, state_made, held_own, made, data_content, up_content, down_content};
+ghost use Rattle.printer.specs.Posts.{own_frame};
 ghost use Rattle.printer.specs.Views.{number_of, kept_by};
 
 use crate::posting::post;
@@ -40,8 +40,7 @@ pub(crate) fn has_role(kind: RecordKind, state: PrinterState) -> bool
 
 // The number of the next own message, and the sequencer that it is assigned to.
 fn next_message(table: &PrinterTable) -> (MessageNumber, (u32, RoleNumber))
-    ensures number { result.0 ≡ next_number table.now.me.value (printer_of table.now) }
-    ensures assigned { result.1 ≡ table.now.duty.sequencer }
+    ensures answer { result ≡ (next_number table.now.me.value (printer_of table.now), table.now.duty.sequencer) }
     ensures in_range { assigned_ok result.0 result.1.0 result.1.1 ≡ true }
 {
     let row = &table.backlog.messages[table.me.index()];

@@ -1,13 +1,12 @@
 // Transmitting the first frame due.
 ghost use Rattle.std.specs.Prelude.{◌≡◌, ◌+◌, ◌<◌, ◌≤◌, true, length, is_ok, if◌then◌else◌};
 ghost use Rattle.roles.specs.Nearest.{delay_in};
-ghost use Rattle.table.specs.Desks.{desk};
 ghost use Rattle.transport.specs.Nets.{after_post};
 ghost use Rattle.table.specs.Dues.{due, FitsTicket};
 ghost use Rattle.table.specs.Printers.{printer_of};
 ghost use Rattle.printer.specs.Laws.{Lawful};
-ghost use Rattle.printer.specs.Posts.{own_frame, posting_answer, posted_at};
-ghost use Rattle.printer.specs.Transmitting.{reassign_content, repaid, issued, due_frame, after_due, ticket_answer, transmit_answer, transmitted, after_transmit};
+ghost use Rattle.printer.specs.Posts.{posting_answer, posted_at};
+ghost use Rattle.printer.specs.Transmitting.{reassign_content, repaid, issued, due_frame, ticket_answer, transmit_answer, transmitted, after_transmit};
 ghost use Rattle.printer.specs.Views.{number_of, kept_by, desk_of};
 ghost use Rattle.table.specs.declared.Due.TheVariants.{Reassignment, Ticket, Clock};
 

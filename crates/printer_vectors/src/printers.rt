@@ -128,7 +128,7 @@ fn two<T: CellTransport<Body = NumberClaim> + Drop>(
     Ok(t)
 }
 
-// The bounds: seven own messages, eight held of a sender, the clock's end.
+// The bounds: seven own messages, the clock's end.
 fn bounds(rt: &impl Abort, heap: Global) -> Result<(), Fail> {
     let mut t: RingTransport<NumberClaim> = two(rt, heap, 64)?;
     let mut one = Desk::open(1, 4_294_967_294)?;

@@ -70,7 +70,8 @@ impl Configuration {
         self.seats[printer.index()].rank = Rank::Removed;
     }
 
-    // What a record changes, in a hall of so many printers.
+    // What a record changes, in a hall of so many printers. The bound on role numbers is asked: a configuration does not
+    // know how long the list is that bounds them.
     pub fn record(&mut self, count: PrinterCount, kind: RecordKind, printer: PrinterNumber)
         requires role_bound { (a : ℕ) → (conf_of self.old a).role.0 < 4294967295 }
         ensures { conf_of self.new ≡ changed count.value (conf_of self.old) kind printer.value }

@@ -1,17 +1,17 @@
 // What a list and a configuration say of a printer.
 use frame::RoleNumber;
 
-// What a record in a list tells. The first three are the kinds of messages, with their numbers on the wire.
+// What a record in a list tells. The first three are the kinds of messages.
 #[derive(Clone, Copy, PartialEq, Eq, Debug)]
 pub enum RecordKind {
     // a message with a body
-    Data = 0,
+    Data,
     // a message by which its sender becomes active
-    Up = 1,
+    Up,
     // a message by which its sender becomes passive
-    Down = 2,
+    Down,
     // a printer has left the hall
-    Gone = 3,
+    Gone,
 }
 
 #[derive(Clone, Copy, PartialEq, Eq, Debug)]
@@ -31,7 +31,8 @@ pub struct Seat {
     pub role: RoleNumber,
 }
 
-// What is known of every printer of the hall. Seats of numbers that the hall does not have are never looked at.
+// What is known of every printer of the hall: a seat for each number that a printer can have, in fixed memory. Seats of
+// numbers that the hall does not have are never looked at.
 #[derive(Clone, Copy)]
 pub struct Configuration {
     pub seats: [Seat; 8],

@@ -71,15 +71,17 @@ pub count_bound : {A : Type 0} (rows : ℕ → Row A) (x y m : ℕ) → (rows y)
 count_bound rows x y m h = grind (arith, nat_tests)
 
 -- one record more keeps the bounds
-pub passed_sound : (n : ℕ) (delay : ℕ → ℕ) (me : ℕ) (p : Printer) (t : Ticket) → n < 9 → me ≤ 7 → Sound me p → Sound me (passed_on n delay me p t)
-passed_sound n delay me p t small few s = record {
-  sequencer = sequencer_near n delay me c u d small (sequencer_kept me c kind t.sender p.duty few s.sequencer);
-  turn = s.turn;
-  roles = changed_bound n p.conf kind t.sender p.length s.roles;
-  messages = passed_bound p.holding.messages t.sender p.length s.messages;
-  tickets = passed_bound p.holding.tickets t.issuer p.length s.tickets;
-  own = count_bound p.holding.messages t.sender me 7 s.own;
-  owes = owes_some n delay me c u d;
+pub passed_sound : (n : ℕ) (delay : ℕ → ℕ) (me : ℕ) (p : Printer) (t : Ticket) → n < 9 → me ≤ 7 → p.length < 65536 → Sound me p →
+    Sound me (passed_on n delay me p t)
+passed_sound n delay me p t small few room s = record {
+  length_ok = omega arith;
+  sequencer_ok = sequencer_near n delay me c u d small (sequencer_kept me c kind t.sender p.duty few s.sequencer_ok);
+  turn_ok = s.turn_ok;
+  roles_ok = changed_bound n p.conf kind t.sender p.length s.roles_ok;
+  messages_ok = passed_bound p.holding.messages t.sender p.length s.messages_ok;
+  tickets_ok = passed_bound p.holding.tickets t.issuer p.length s.tickets_ok;
+  own_ok = count_bound p.holding.messages t.sender me 7 s.own_ok;
+  owes_ok = owes_some n delay me c u d;
 }
   where
     kind : RecordKind

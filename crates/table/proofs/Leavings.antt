@@ -51,16 +51,17 @@ module _ (n : ℕ) (delay : ℕ → ℕ) (me : ℕ) (p : Printer) (x : ℕ) wher
       printer_path _ _ refl (ee ∙ (λ i. ruled n delay me (ec i) (u' i) (d' i))) ec h' refl
 
   -- a departure keeps the bounds
-  pub bereft_sound : n < 9 → me ≤ 7 → Sound me p → Sound me (bereft n delay me p x)
-  bereft_sound small few s = record {
-    sequencer = sequencer_near n delay me c u d small
-        (cond_both won (own_pair c me) p.duty.sequencer (λ (q : ℕ × RoleNumber). q.0 ≤ 7) (λ _. few) (λ _. s.sequencer));
-    turn = s.turn;
-    roles = changed_bound n p.conf Gone x p.length s.roles;
-    messages = λ y. grind (arith, nat_tests, s.messages y, s.messages x, s.messages me);
-    tickets = λ b. let k = s.tickets b in omega arith;
-    own = grind (arith, nat_tests, s.own);
-    owes = owes_some n delay me c u d;
+  pub bereft_sound : n < 9 → me ≤ 7 → p.length < 65536 → Sound me p → Sound me (bereft n delay me p x)
+  bereft_sound small few room s = record {
+    length_ok = omega arith;
+    sequencer_ok = sequencer_near n delay me c u d small
+        (cond_both won (own_pair c me) p.duty.sequencer (λ (q : ℕ × RoleNumber). q.0 ≤ 7) (λ _. few) (λ _. s.sequencer_ok));
+    turn_ok = s.turn_ok;
+    roles_ok = changed_bound n p.conf Gone x p.length s.roles_ok;
+    messages_ok = λ y. grind (arith, nat_tests, s.messages_ok y, s.messages_ok x, s.messages_ok me);
+    tickets_ok = λ b. let k = s.tickets_ok b in omega arith;
+    own_ok = grind (arith, nat_tests, s.own_ok);
+    owes_ok = owes_some n delay me c u d;
   }
     where
       c : Conf

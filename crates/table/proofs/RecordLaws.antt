@@ -1,9 +1,8 @@
--- Writing one element, and the body that a record gets.
-use Rattle.std.proofs.Common.{◌≡◌, ℕ, zero, suc, ◌<◌, ◌≤◌, List, [], ◌∷◌, length, get_or, set, sym, refl, ap, ◌∙◌, arith}
-use Rattle.std.proofs.lemmas.List.{get_or_past, get_or_default}
+-- Writing one element, and one record.
+use Rattle.std.proofs.Common.{◌≡◌, ℕ, zero, suc, ◌<◌, List, [], ◌∷◌, length, get_or, set, refl, ap, ◌∙◌, arith}
+use Rattle.std.proofs.lemmas.List.{get_or_default}
 use Rattle.frame.specs.declared.MessageNumber.{MessageNumber}
 use Rattle.roles.specs.declared.RecordKind.{RecordKind}
-use Rattle.roles.specs.declared.RecordKind.TheVariants.{Data, Up, Down, Gone}
 use Rattle.table.specs.Records.{modify, body_for, written, shelf_place}
 use Rattle.table.specs.declared.records.Record.{Record}
 
@@ -17,13 +16,6 @@ pub modify_length : {A : Type 0} (xs : List A) (i : ℕ) (f : A → A) → lengt
 modify_length [] i f = refl
 modify_length (x ∷ xs) zero f = refl
 modify_length (x ∷ xs) (suc i) f = ap suc (modify_length xs i f)
-
--- beyond the shelf there is no body
-pub body_past : {R : Type 0} (kind : RecordKind) (shelf : List R) (i : ℕ) (old : R) → length shelf ≤ i → old ≡ body_for kind shelf i old
-body_past Data shelf i old h = sym (get_or_past shelf i old h)
-body_past Up shelf i old h = refl
-body_past Down shelf i old h = refl
-body_past Gone shelf i old h = refl
 
 -- a record made of its parts and written over an old one
 pub record_written : {R : Type 0} (list : List (Record R)) (at : ℕ) (kind : RecordKind) (x : ℕ) (k : MessageNumber) (shelf : List R) (d : Record R)

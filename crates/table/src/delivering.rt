@@ -6,7 +6,6 @@ ghost use Rattle.table.specs.Given.{Given};
 ghost use Rattle.table.specs.Grown.{Grown};
 ghost use Rattle.table.specs.Passing.{passed_on, kind_held};
 ghost use Rattle.table.specs.Printers.{printer_of};
-ghost use Rattle.table.specs.Records.{modify, written};
 
 use crate::passing::Heed;
 use crate::records::{Record, write_record};

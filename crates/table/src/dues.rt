@@ -12,7 +12,8 @@ use frame::{MessageNumber, PrinterCount, PrinterNumber};
 pub enum Due {
     // that its undelivered messages have another sequencer
     Reassignment,
-    // a ticket for this message
+    // a ticket for this message; its sender is a plain number, as in the definitions of what is due, which are of all
+    // numbers
     Ticket { sender: u32, message: MessageNumber },
     // its clock, and nothing else
     Clock,

@@ -1,4 +1,5 @@
-// What a record changes in a printer's part.
+// What a record changes in a printer's part. Number and configuration are parameters: a method of the table would owe the
+// table's ghost fields midway, where they do not hold yet.
 ghost use Rattle.std.specs.Prelude.{◌≡◌, length};
 ghost use Rattle.roles.specs.Configurations.{conf_of};
 ghost use Rattle.roles.specs.Nearest.{delay_in};

@@ -31,7 +31,7 @@ impl Duty {
     }
 }
 
-// A printer that has become active, with its new role number.
+// A printer that has become active, with its new role number. Asked with its parts, like the rule after each record.
 fn promotion(me: u32, was_active: bool, configuration: &Configuration) -> Option<(u32, RoleNumber)>
     ensures { result ≡ promotion (is_active (conf_of configuration.now) me && not was_active) (own_pair (conf_of configuration.now) me) }
 {

@@ -14,13 +14,14 @@ pub struct Clocks {
     pub own: TicketNumber,
     // the clock of the frame that it posted last
     pub posted: TicketNumber,
-    // the clock last heard from each printer
+    // the clock last heard from each printer, with a place for each number that a printer can have, in fixed memory
     pub heard: [TicketNumber; 8],
 }
 
 // What printer `me` keeps, apart from its list and its shelf, which lie in the caller's stores. `length` is that of its
 // list. Every message, ticket and role number that it counts goes with a record of that list, so none of them ever comes
-// near the end of its 32 bits.
+// near the end of its 32 bits. The definitions take `me` beside the printer, as those of a hall do that count its
+// printers by number; so it is no part of what a table means, and each step says that it stays.
 #[derive(Clone, Copy)]
 pub struct PrinterTable {
     pub me: PrinterNumber,

@@ -102,50 +102,50 @@ fn bodies(rt: HostRuntime) -> Result<(), Fail> {
     check_frame(&rt, heap, claim, &[0, 2, 7, 3, 0, 4, 15, 1_000_000])
 }
 
+fn of_claims(
+    sender: u32,
+    clock: u32,
+    content: Content<NumberClaim>,
+) -> Result<Frame<NumberClaim>, WireFault> {
+    Frame::new(sender, TicketNumber(clock), content)
+}
+
 #[test]
 fn other_kinds(rt: HostRuntime) -> Result<(), Fail> {
     let heap = rt.alloc();
     let (number, sequencer, role) = (MessageNumber(TOP), 7, RoleNumber(TOP));
-    let up: Frame<NumberClaim> = Frame::new(
-        5,
-        TicketNumber(258),
-        Content::Up {
-            number,
-            sequencer,
-            role,
-        },
+    let up = Content::Up {
+        number,
+        sequencer,
+        role,
+    };
+    check_frame(&rt, heap, of_claims(5, 258, up)?, &[1, 5, 258, TOP, 7, TOP])?;
+    let down = Content::Down {
+        number,
+        sequencer,
+        role,
+    };
+    check_frame(
+        &rt,
+        heap,
+        of_claims(0, TOP, down)?,
+        &[2, 0, TOP, TOP, 7, TOP],
     )?;
-    check_frame(&rt, heap, up, &[1, 5, 258, TOP, 7, TOP])?;
-    let down: Frame<NumberClaim> = Frame::new(
-        0,
-        TicketNumber(TOP),
-        Content::Down {
-            number,
-            sequencer,
-            role,
-        },
+    let ticket = Content::Ticket { of: 6, number };
+    check_frame(&rt, heap, of_claims(3, 1, ticket)?, &[3, 3, 1, 6, TOP])?;
+    let given = Content::Reassign {
+        last: MessageNumber(TOP - 7),
+        sent: number,
+        sequencer,
+        role,
+    };
+    check_frame(
+        &rt,
+        heap,
+        of_claims(4, 0, given)?,
+        &[4, 4, 0, TOP - 7, TOP, 7, TOP],
     )?;
-    check_frame(&rt, heap, down, &[2, 0, TOP, TOP, 7, TOP])?;
-    let ticket: Frame<NumberClaim> = Frame::new(
-        3,
-        TicketNumber(1),
-        Content::Ticket { of: 6, number },
-    )?;
-    check_frame(&rt, heap, ticket, &[3, 3, 1, 6, TOP])?;
-    let last = MessageNumber(TOP - 7);
-    let given: Frame<NumberClaim> = Frame::new(
-        4,
-        TicketNumber(0),
-        Content::Reassign {
-            last,
-            sent: number,
-            sequencer,
-            role,
-        },
-    )?;
-    check_frame(&rt, heap, given, &[4, 4, 0, TOP - 7, TOP, 7, TOP])?;
-    let clock: Frame<NumberClaim> = Frame::new(7, TicketNumber(256), Content::Clock)?;
-    check_frame(&rt, heap, clock, &[5, 7, 256])
+    check_frame(&rt, heap, of_claims(7, 256, Content::Clock)?, &[5, 7, 256])
 }
 
 #[test]
@@ -173,25 +173,13 @@ fn words_out_of_range(rt: HostRuntime) -> Result<(), Fail> {
     for (words, byte) in claims {
         refused::<NumberClaim>(&rt, heap, words, WireRefusal::OutOfRange, byte)?;
     }
-    refused::<TemplateChange>(
-        &rt,
-        heap,
-        &[0, 1, 0, 1, 1, 0, 3],
-        WireRefusal::OutOfRange,
-        24,
-    )?;
-    refused::<TemplateChange>(
-        &rt,
-        heap,
-        &[0, 1, 0, 1, 1, 0, 2, 5, 1],
-        WireRefusal::OutOfRange,
-        32,
-    )?;
-    refused::<TemplateChange>(
-        &rt,
-        heap,
-        &[0, 1, 0, 1, 1, 0, 1, 5, 1, 1],
-        WireRefusal::OutOfRange,
-        36,
-    )
+    let changes: [(&[u32], usize); 3] = [
+        (&[0, 1, 0, 1, 1, 0, 3], 24),
+        (&[0, 1, 0, 1, 1, 0, 2, 5, 1], 32),
+        (&[0, 1, 0, 1, 1, 0, 1, 5, 1, 1], 36),
+    ];
+    for (words, byte) in changes {
+        refused::<TemplateChange>(&rt, heap, words, WireRefusal::OutOfRange, byte)?;
+    }
+    Ok(())
 }

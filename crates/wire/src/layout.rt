@@ -1,9 +1,9 @@
 // Which words a frame has, and which of them are in range.
-ghost use Rattle.std.specs.Prelude.{◌≡◌, ◌+◌, ◌≤◌, length};
-ghost use Rattle.wire.specs.Layout.{kind_count, kind_allows, content_allows, assigned_allows, none_allowed, content_words, frame_words};
+ghost use Rattle.std.specs.Prelude.{◌≡◌};
+ghost use Rattle.wire.specs.Layout.{kind_count, kind_allows, content_allows, assigned_allows, none_allowed};
 
 use body::Body;
-use frame::{Content, Frame, FrameKind};
+use frame::FrameKind;
 
 // How many words follow the kind.
 pub(crate) fn words_after<B: Body>(kind: FrameKind) -> usize
@@ -18,7 +18,7 @@ pub(crate) fn words_after<B: Body>(kind: FrameKind) -> usize
     }
 }
 
-// Whether a word of a message is in range after those before it, its number first, where no body follows.
+// Whether a word of a message but those of its body is in range after those before it, its number first.
 fn message_in_range(before: &[u32], word: u32) -> bool
     ensures { result ≡ assigned_allows none_allowed before.now word }
 {

@@ -46,6 +46,7 @@ fn fill_words<B: Body>(kind: FrameKind, bytes: &[u8], words: &mut [u32]) -> Resu
     requires { length words.old ≡ kind_count B.count kind }
     ensures { Fills (kind_allows B.allows kind) (kind_count B.count kind) bytes.now words.new result }
 {
+    // by places, since each word is judged by those before it in the same slice
     for n in 0..words.len() {
         words[n] = next_word::<B>(kind, &words[..n], bytes)?;
     }

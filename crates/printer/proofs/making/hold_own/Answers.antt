@@ -28,19 +28,9 @@ is-after : (c : goal.After-hold_message) → after c ≡ held_own c.args.kind c.
 is-after c =
     let t = c.args.table.now in
     printer_path _ _ refl (ap (duty_in t.duty) c.state_made-table.ensures) refl
-    (c.hold_message.ensures ∙ (λ i. hold_message (holding_of t.backlog) t.me.value (c.next_message.ensures.number i).0 (record { kind = c.args.kind; assigned = c.next_message.ensures.assigned i }))) refl
+    (c.hold_message.ensures ∙ ap (λ m. hold_message (holding_of t.backlog) t.me.value m.0.0 (record { kind = c.args.kind; assigned = m.1 })) c.next_message.ensures.answer) refl
 
 pub invariant_of-table : goal.invariant_of-table
 invariant_of-table c =
     let t = c.args.table.now in
-    let s = subst (Sound t.me.value) (sym (is-after c)) (held_own_sound c.args.kind t.me.value (printer_of t) c.requires (sound t)) in
-    record {
-      length_ok = t.length_ok;
-      sequencer_ok = s.sequencer;
-      turn_ok = s.turn;
-      roles_ok = s.roles;
-      messages_ok = s.messages;
-      tickets_ok = s.tickets;
-      own_ok = s.own;
-      owes_ok = s.owes;
-    }
+    subst (Sound t.me.value) (sym (is-after c)) (held_own_sound c.args.kind t.me.value (printer_of t) c.requires (sound t))

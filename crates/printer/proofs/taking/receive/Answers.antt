@@ -6,14 +6,4 @@ use Rattle.printer.proofs.taking.receive.Goals as goal
 pub invariant_of-table : goal.invariant_of-table
 invariant_of-table g c =
     let t = c.args.table.now in
-    let s = received_sound t.me.value c.args.from.value c.args.frame (printer_of t) _ c.requires.from_other c.hold_frame.ensures (sound t) in
-    record {
-      length_ok = t.length_ok;
-      sequencer_ok = s.sequencer;
-      turn_ok = s.turn;
-      roles_ok = s.roles;
-      messages_ok = s.messages;
-      tickets_ok = s.tickets;
-      own_ok = s.own;
-      owes_ok = s.owes;
-    }
+    received_sound t.me.value c.args.from.value c.args.frame (printer_of t) _ c.requires.from_other c.hold_frame.ensures (sound t)

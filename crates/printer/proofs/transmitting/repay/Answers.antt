@@ -1,7 +1,5 @@
-use Rattle.std.proofs.Common.{true, ◌∙◌}
-use Rattle.table.specs.Printers.{printer_of}
+use Rattle.std.proofs.Common.{◌∙◌}
 use Rattle.printer.specs.Transmitting.{repaid}
-use Rattle.printer.proofs.PostLaws.{posted_same}
 use Rattle.printer.proofs.transmitting.repay.Goals as goal
 
 pub returns-clause-table : goal.returns-clause-table
@@ -10,6 +8,4 @@ returns-clause-table g c =
     c.settle_debt.ensures.table ∙ (λ i. repaid (p.me i).value (p.table i))
 
 pub returns-clause-net : goal.returns-clause-net
-returns-clause-net g c =
-    let t = c.args.table.now in
-    posted_same _ (g.T.Transport.meaning c.args.transport.now) true t.me.value (printer_of t) _ _ c.reassignment.ensures c.in_ok-post.ensures.net
+returns-clause-net g c = rw (c.in_ok-post.ensures.net, c.reassignment.ensures)

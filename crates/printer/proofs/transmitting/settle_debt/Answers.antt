@@ -6,14 +6,4 @@ use Rattle.printer.proofs.transmitting.settle_debt.Goals as goal
 pub invariant_of-table : goal.invariant_of-table
 invariant_of-table c =
     let t = c.args.table.now in
-    let s = repaid_sound t.me.value (printer_of t) _ c.reassign_all.ensures (sound t) in
-    record {
-      length_ok = t.length_ok;
-      sequencer_ok = s.sequencer;
-      turn_ok = s.turn;
-      roles_ok = s.roles;
-      messages_ok = s.messages;
-      tickets_ok = s.tickets;
-      own_ok = s.own;
-      owes_ok = s.owes;
-    }
+    repaid_sound t.me.value (printer_of t) _ c.reassign_all.ensures (sound t)

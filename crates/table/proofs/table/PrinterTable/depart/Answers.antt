@@ -1,4 +1,4 @@
-use Rattle.std.proofs.Common.{◌≡◌, ◌+◌, length, sym, refl, ap, ◌∙◌, subst, arith}
+use Rattle.std.proofs.Common.{◌≡◌, ◌+◌, length, sym, refl, ap, ◌∙◌, subst}
 use Rattle.roles.specs.Configurations.{conf_of, changed}
 use Rattle.roles.specs.declared.RecordKind.TheVariants.{Gone}
 use Rattle.roles.specs.Nearest.{delay_in}
@@ -33,18 +33,8 @@ is-after c =
 pub invariant_of-self : goal.invariant_of-self
 invariant_of-self c =
     let t = c.args.self.now in
-    let s = subst (Sound t.me.value) (sym (is-after c))
-    (bereft_sound (length c.args.delays.now.row.now) (delay_in c.args.delays.now.row.now) t.me.value (printer_of t) c.args.leaver.value c.args.delays.now.few (number_small t) (sound t)) in
-    record {
-      length_ok = omega arith;
-      sequencer_ok = s.sequencer;
-      turn_ok = s.turn;
-      roles_ok = s.roles;
-      messages_ok = s.messages;
-      tickets_ok = s.tickets;
-      own_ok = s.own;
-      owes_ok = s.owes;
-    }
+    subst (Sound t.me.value) (sym (is-after c))
+    (bereft_sound (length c.args.delays.now.row.now) (delay_in c.args.delays.now.row.now) t.me.value (printer_of t) c.args.leaver.value c.args.delays.now.few (number_small t) c.requires (sound t))
 
 pub returns : goal.returns
 returns c = record { table = is-after (at-returns c).After-rule; me = refl }
