@@ -96,7 +96,8 @@ impl Row<Held, 8> {
 }
 
 impl Backlog {
-    // Gives the held messages of a sender after `last` up to `sent` to another sequencer.
+    // Gives the held messages of a sender after `last` up to `sent` to another sequencer. The three come as fields of a
+    // frame and are used once, each for itself.
     pub fn reassign(
         &mut self,
         sender: PrinterNumber,

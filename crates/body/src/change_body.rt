@@ -150,6 +150,7 @@ impl Body for TemplateChange {
         }
     }
 
+    // The kind by its number: what is in range is defined of words, and the reader asks this of each.
     fn in_range(before: &[u32], word: u32) -> bool {
         match before {
             [] => word <= 2,

@@ -3,7 +3,8 @@ ghost use Rattle.std.specs.Prelude.{◌≡◌, ◌<◌, length};
 
 use frame::PrinterCount;
 
-// A delay for each printer of the hall.
+// A delay for each printer of the hall. Clauses tell it by its length and by `delay_in`, since the definitions take a
+// number of printers and a function.
 #[derive(Clone, Copy)]
 pub struct Delays<'a> {
     pub row: &'a [u16],
