@@ -7,7 +7,7 @@ use ring::RingTransport;
 use transport::CellTransport;
 use wire::{ClaimRow, FrameRow, MessageNumber, NumberClaim, PrinterNumber, TicketNumber};
 
-// What stores hold at first does not matter.
+// What stores hold at first does not matter. A record needs a body of some kind, so a program writes its own.
 const ROW: ClaimRow = ClaimRow {
     series: 0,
     count: 0,

@@ -21,7 +21,7 @@ fn is_printer(value: u32) -> bool
 }
 
 impl PrinterNumber {
-    // A constructor that tests, as those of a payload and a frame below, which take more than one value.
+    // A constructor and no `TryFrom`: all parts of a frame are made by a `new` that answers the same fault.
     pub fn new(value: u32) -> Result<PrinterNumber, WireFault>
         ensures { result ≡ ok_or (printer_of value) unfit }
     {

@@ -13,7 +13,7 @@ use table::Record;
 
 impl Printer {
     // Another printer leaves: all held tickets are passed on without regard to clocks, and a gone record is written. The
-    // list has room for that; there is a delay for each printer of the hall.
+    // list has room for that, and is a plain slice, so its bound is asked; there is a delay for each printer of the hall.
     pub fn leave<R: Copy>(
         &mut self,
         leaver: PrinterNumber,

@@ -114,8 +114,8 @@ fn receive<B: Body>(table: &mut PrinterTable, from: PrinterNumber, frame: Frame<
 }
 
 impl Printer {
-    // Takes the oldest frame from a sender, and passes on what can be passed on then. There is a delay for each printer
-    // of the hall.
+    // Takes the oldest frame from a sender, and passes on what can be passed on then. The list is a plain slice of its
+    // hall's store, so its bound is asked of each step that writes there. There is a delay for each printer of the hall.
     pub fn take<T: Transport>(
         &mut self,
         from: PrinterNumber,

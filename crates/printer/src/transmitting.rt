@@ -115,7 +115,8 @@ fn tell_clock<T: Transport>(table: &mut PrinterTable, transport: &mut T) -> Resu
 }
 
 impl Printer {
-    // Posts the first frame that is due. There is a delay for each printer of the hall.
+    // Posts the first frame that is due. There is a delay for each printer of the hall; the list is a plain slice, so its
+    // bound is asked.
     pub fn transmit<T: Transport>(
         &mut self,
         delays: &Delays,

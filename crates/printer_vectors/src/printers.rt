@@ -8,6 +8,7 @@ use std::test::Fail;
 use transport::{CellTransport, Transport};
 use wire::{ClaimRow, FrameRow, MessageNumber, NumberClaim, PrinterNumber, TicketNumber};
 
+// What stores hold at first does not matter. A record needs a body of some kind, so tests write their own.
 const ROW: ClaimRow = ClaimRow {
     series: 0,
     count: 0,

@@ -67,7 +67,7 @@ impl PrinterFault {
         }
     }
 
-    // The layer that refused.
+    // The layer that refused: a question like the others.
     pub fn layer(self) -> Layer
         ensures { result ≡ fault_layer self }
     {

@@ -1,4 +1,5 @@
-// Making a ring transport.
+// Making a ring transport. Alike to the making of the other one: what differs is the share of cells and what is kept for
+// a pair, so each has its own few lines over the parts in crate `transport`.
 ghost use Rattle.std.specs.Prelude.{◌≡◌, ◌*◌, ◌/◌, ◌≤◌, Ok, Err, vec_items, vec_len};
 ghost use Rattle.transport.specs.Nets.{fresh, making_answer};
 ghost use Rattle.ring.specs.Meaning.{ring_meaning};

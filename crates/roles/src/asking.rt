@@ -66,7 +66,8 @@ impl Configuration {
         (0..count.value).any(|printer| self.is_active(printer))
     }
 
-    // Whether a printer other than this one is active. A line of its own, since one function for both would take an Option.
+    // Whether a printer other than this one is active. A line of its own: of one function for both, each caller would have
+    // to say whom it leaves out, or that it leaves out none.
     pub(crate) fn another_active(&self, count: PrinterCount, printer: PrinterNumber) -> bool
         ensures { result ≡ another_active count.value (conf_of self.now) printer.value }
     {

@@ -1,4 +1,5 @@
-// What waits for one pair.
+// What waits for one pair. The steps are those of the other transport too, but the cells lie elsewhere and other numbers
+// are kept, so each has its own.
 ghost use Rattle.std.specs.Prelude.{◌≡◌, ◌≤◌, length};
 ghost use Rattle.transport.specs.Nets.{oldest, after_take};
 ghost use Rattle.sender_log.specs.Meaning.{log_meaning};

@@ -72,7 +72,7 @@ impl PrinterTable {
     }
 
     // Another printer leaves: all held tickets are passed on without regard to clocks, and a gone record is written. The
-    // list has room for that.
+    // list has room for that; it is a plain slice, so its bound is asked.
     pub fn leave<R: Copy>(
         &mut self,
         delays: &Delays,

@@ -19,6 +19,7 @@ pub fn drain<T: Transport>(t: &mut T, sender: u32, receiver: u32, most: usize) -
     ensures answer { result ≡ min most (length (queue (T.meaning t.old) sender receiver)) }
     ensures after { T.meaning t.new ≡ after_takes (T.meaning t.old) sender receiver result }
 {
+    // counted, since the answer is how many were taken
     for count in 0..most {
         if !take_one(t, sender, receiver) {
             return count;

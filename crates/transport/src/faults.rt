@@ -32,7 +32,7 @@ impl TransportRefusal {
         self as u8
     }
 
-    // The layer that the table of refusals gives it.
+    // The layer that the table of refusals gives it: a question, and no conversion, since a layer is no other name of it.
     pub fn layer(self) -> Layer
         ensures { result ≡ refusal_layer self }
     {

@@ -7,11 +7,12 @@ mod rebuild;
 mod write;
 
 pub use body::{
-    Body, ChangeKind, ChangeRow, ClaimRow, NumberClaim, TemplateChange, WireFault, WireRefusal,
+    Body, ChangeKind, ChangeRow, ClaimRow, NumberClaim, TemplateChange, UNFIT, WireFault,
+    WireRefusal,
 };
 pub use frame::{
-    Content, Frame, FrameKind, FrameRow, MessageNumber, Payload, PrinterNumber, RoleNumber,
-    TicketNumber,
+    Content, Frame, FrameKind, FrameRow, MessageNumber, Payload, PrinterCount, PrinterNumber,
+    RoleNumber, TicketNumber,
 };
 pub use read::read_frame;
 pub use write::{MAX_FRAME_BYTES, frame_length, write_frame};
