@@ -7,7 +7,7 @@ ghost use Rattle.ring.specs.Meaning.{ring_meaning};
 use crate::circle::Circle;
 use crate::ring::RingTransport;
 use body::Body;
-use frame::FrameRow;
+use frame::{FrameRow, PrinterCount};
 use transport::{CellTransport, Members, PairTable, TransportFault, fair_limit};
 
 impl<B: Body> RingTransport<B> {
@@ -19,7 +19,7 @@ impl<B: Body> RingTransport<B> {
         ensures meaning { ring_meaning B.remade self.new ≡ fresh n limit }
         ensures cells { self.new.cells ≡ self.old.cells }
     {
-        self.members = Members::all_open(n);
+        self.members = Members::all_open(PrinterCount { value: n });
         self.limit = limit;
         self.circles = PairTable::filled(Circle::EMPTY);
     }
@@ -37,7 +37,7 @@ impl<B: Body> CellTransport for RingTransport<B> {
         ensures cells { result.cells ≡ cells }
     {
         RingTransport {
-            members: Members::all_open(0),
+            members: Members::all_open(PrinterCount { value: 0 }),
             limit: 1,
             circles: PairTable::filled(Circle::EMPTY),
             cells,

@@ -6,7 +6,7 @@ ghost use Rattle.sender_log.specs.Meaning.{log_meaning};
 
 use crate::log::LogTransport;
 use body::Body;
-use frame::FrameRow;
+use frame::{FrameRow, PrinterCount};
 use transport::{CellTransport, Members, PairTable, TransportFault, fair_limit};
 
 impl<B: Body> LogTransport<B> {
@@ -18,7 +18,7 @@ impl<B: Body> LogTransport<B> {
         ensures meaning { log_meaning B.remade self.new ≡ fresh n limit }
         ensures cells { self.new.cells ≡ self.old.cells }
     {
-        self.members = Members::all_open(n);
+        self.members = Members::all_open(PrinterCount { value: n });
         self.limit = limit;
         self.ends = [0; 8];
         self.behinds = PairTable::filled(0);
@@ -37,7 +37,7 @@ impl<B: Body> CellTransport for LogTransport<B> {
         ensures cells { result.cells ≡ cells }
     {
         LogTransport {
-            members: Members::all_open(0),
+            members: Members::all_open(PrinterCount { value: 0 }),
             limit: 1,
             ends: [0; 8],
             behinds: PairTable::filled(0),

@@ -15,9 +15,8 @@ fn fault(refusal: TransportRefusal) -> TransportFault
 }
 
 // The limit that the cells give where each of so many shares gets as many of them. It is refused if n is below 2 or above
-// 8, or if there are fewer cells than shares.
+// 8, or if there are fewer cells than shares, or no shares at all.
 pub fn fair_limit(n: u32, cells: usize, shares: usize) -> Result<usize, TransportFault>
-    requires { 0 < n → 0 < shares }
     ensures refused { (e : _) → result ≡ Err e → making_answer n (cells / shares) ≡ Err e }
     ensures made { (limit : ℕ) → result ≡ Ok limit → (making_answer n (cells / shares) ≡ Ok tt) × (limit ≡ cells / shares) }
     ensures few { (limit : ℕ) → result ≡ Ok limit → n ≤ 8 }
@@ -27,7 +26,7 @@ pub fn fair_limit(n: u32, cells: usize, shares: usize) -> Result<usize, Transpor
     if !(2..=8).contains(&n) {
         return Err(fault(TransportRefusal::PrinterCount));
     }
-    let limit = cells / shares;
+    let limit = cells.checked_div(shares).unwrap_or(0);
     if limit == 0 {
         return Err(fault(TransportRefusal::NoLimit));
     }

@@ -1,6 +1,8 @@
 // Which printers there are, and which of them are open.
 ghost use Rattle.std.specs.Prelude.{◌≤◌};
 
+use frame::PrinterCount;
+
 // The printers of a hall, at most eight. The flag of a printer that there is not counts for nothing: fixed memory has a
 // place for each printer number.
 #[derive(Drop)]
@@ -15,15 +17,13 @@ impl Members {
     ghost use Rattle.transport.specs.Members.{opened, is_open_in, hears_in, reaches};
     ghost use Rattle.transport.specs.Nets.{least_below};
 
-    // So many printers, all open. That they are few is asked: the making of a transport has tested it (`fair_limit`), and
-    // answers any number.
-    pub fn all_open(size: u32) -> Members
-        requires { size ≤ 8 }
-        ensures size { result.size ≡ size }
-        ensures open { (j : ℕ) → opened result j ≡ nat_lt j size }
+    // So many printers, all open.
+    pub fn all_open(count: PrinterCount) -> Members
+        ensures size { result.size ≡ count.value }
+        ensures open { (j : ℕ) → opened result j ≡ nat_lt j count.value }
     {
         Members {
-            size,
+            size: count.value,
             open: [true; 8],
         }
     }

@@ -14,7 +14,7 @@ invariant_of-self g c =
     record {
       limit_ok = t.limit_ok;
       cells_ok = t.cells_ok;
-      ends_ok = after_set (λ x. x < t.limit) t.ends s _ c.place_after.ensures.within t.ends_ok;
+      ends_ok = after_set (λ x. x < t.limit) t.ends s _ (c.place_after.ensures.within (t.ends_ok s) (omega (arith, t.limit_ok))) t.ends_ok;
       behinds_ok = log_within (stored g.B.Body.remade) t.members t.limit t.ends t.behinds (vec_items t.cells) c.fall_behind.new.behinds s
           t.behinds_ok (further_all t.members t.behinds c.fall_behind.new.behinds s c.fall_behind.ensures) c.requires;
     }
