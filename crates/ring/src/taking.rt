@@ -7,7 +7,7 @@ ghost use Rattle.ring.specs.Meaning.{ring_meaning};
 use crate::circle::Circle;
 use crate::ring::RingTransport;
 use body::Body;
-use frame::Frame;
+use frame::{Frame, PrinterNumber};
 use transport::{place_after, stored_frame};
 
 impl<B: Body> RingTransport<B> {
@@ -18,6 +18,8 @@ impl<B: Body> RingTransport<B> {
         if !self.members.reaches(sender, receiver) {
             return 0;
         }
+        let sender = PrinterNumber { value: sender };
+        let receiver = PrinterNumber { value: receiver };
         self.circles.get(sender, receiver).held
     }
 
@@ -28,7 +30,9 @@ impl<B: Body> RingTransport<B> {
         if self.waits(sender, receiver) == 0 {
             return None;
         }
-        let start = self.circles.get(sender, receiver).start;
+        let from = PrinterNumber { value: sender };
+        let to = PrinterNumber { value: receiver };
+        let start = self.circles.get(from, to).start;
         let at = self.cell_index(sender, receiver, start);
         Some(stored_frame::<B>(self.cells[at]))
     }
@@ -40,6 +44,8 @@ impl<B: Body> RingTransport<B> {
         if self.waits(sender, receiver) == 0 {
             return;
         }
+        let sender = PrinterNumber { value: sender };
+        let receiver = PrinterNumber { value: receiver };
         let Circle { start, held } = self.circles.get(sender, receiver);
         let start = place_after(self.limit, start, 1);
         let held = held - 1;

@@ -19,7 +19,7 @@ module _ {B R : Type 0} (frame : FrameRow R → Frame B) (limit : ℕ) (cells : 
   abbrev at : ℕ → ℕ → Frame B
   at i p = frame (get_or cells (cell limit i p) blank)
 
-  last_rest : (i end behind : ℕ) → end < limit → behind + 1 ≤ limit →
+  pub last_rest : (i end behind : ℕ) → end < limit → behind + 1 ≤ limit →
       last_frames frame limit cells i end behind ≡ rest (last_frames frame limit cells i end (behind + 1))
   last_rest i end behind h l =
       let c : cursor limit end (behind + 1) < limit = around_below limit end (limit - (behind + 1)) h (omega arith) in
@@ -28,7 +28,7 @@ module _ {B R : Type 0} (frame : FrameRow R → Frame B) (limit : ℕ) (cells : 
       (along_rest limit (at i) (cursor limit end (behind + 1)) behind c l ∙
       ap (λ k. rest (along (at i) limit (cursor limit end (behind + 1)) k)) m)
 
-  last_first : (i end behind : ℕ) → end < limit → behind ≤ limit → (behind ≡ 0 → ⊥) →
+  pub last_first : (i end behind : ℕ) → end < limit → behind ≤ limit → (behind ≡ 0 → ⊥) →
       first (last_frames frame limit cells i end behind) ≡ Some (at i (cursor limit end behind))
   last_first i end behind h l ne =
       let c : cursor limit end behind < limit = around_below limit end (limit - behind) h (omega arith) in

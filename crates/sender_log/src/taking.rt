@@ -6,7 +6,7 @@ ghost use Rattle.sender_log.specs.Meaning.{log_meaning};
 
 use crate::log::LogTransport;
 use body::Body;
-use frame::Frame;
+use frame::{Frame, PrinterNumber};
 use transport::stored_frame;
 
 impl<B: Body> LogTransport<B> {
@@ -18,6 +18,8 @@ impl<B: Body> LogTransport<B> {
         if receiver == sender || !self.members.reaches(sender, receiver) {
             return 0;
         }
+        let sender = PrinterNumber { value: sender };
+        let receiver = PrinterNumber { value: receiver };
         self.behinds.get(sender, receiver)
     }
 
@@ -41,6 +43,8 @@ impl<B: Body> LogTransport<B> {
         if behind == 0 {
             return;
         }
+        let sender = PrinterNumber { value: sender };
+        let receiver = PrinterNumber { value: receiver };
         self.behinds.set(sender, receiver, behind - 1);
     }
 }

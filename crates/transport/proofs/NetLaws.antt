@@ -1,10 +1,10 @@
 -- Meanings that are the same, and what the tests of a net tell.
 use Rattle.std.proofs.Common.{◌≡◌, ℕ, zero, suc, ◌+◌, ◌-◌, ◌<◌, ◌≤◌, min, Bool, true, false, cond, not, ◌&&◌, eqb, ltb, leb, length, Ok, Err, Result, sym, refl, ap, ◌∙◌, ap₂, inl, inr, add-one, arith}
 use mathlib.Core.Path.{fun_ext}
-use Rattle.std.proofs.lemmas.Bool.{and_parts, cases_eq, cond_both, eqb-true, ltb-true, lt-ltb, both_ways}
+use Rattle.std.proofs.lemmas.Bool.{and_parts, and_left, and_right, cases_eq, cond_both, cond-false, eqb-true, ltb-true, lt-ltb, both_ways}
 use Rattle.std.proofs.lemmas.Bool.Decides.{nat_tests}
 use Rattle.frame.specs.declared.Frame.{Frame}
-use Rattle.transport.specs.Nets.{Net, all_below, least_below, accepts, hears, is_full, room, most_posts, post_judged, post_answer, after_post}
+use Rattle.transport.specs.Nets.{Net, all_below, least_below, accepts, hears, is_full, room, most_posts, post_judged, post_answer, after_post, after_close}
 use Rattle.transport.specs.declared.faults.TransportFault.{TransportFault}
 
 -- functions equal at every argument are equal
@@ -18,8 +18,28 @@ all_below_at (suc n) p j h e =
     let q = and_parts (p n) (all_below n p) e in
     elim (cases_eq j n) [ inl r ↦ ap p r ∙ q.0 | inr r ↦ all_below_at n p j (omega arith) q.1 ]
 
+pub all_below_fails : (n : ℕ) (p : ℕ → Bool) (j : ℕ) → j < n → p j ≡ false → all_below n p ≡ false
+all_below_fails zero p j h e = absurd (let z : j < 0 = h in omega arith)
+all_below_fails (suc n) p j h e =
+    elim (cases_eq j n) [
+      | inl r ↦ and_left (p n) (all_below n p) (sym (ap p r) ∙ e)
+      | inr r ↦ and_right (p n) (all_below n p) (all_below_fails n p j (omega arith) e)
+    ]
+
+pub all_below_more : (n : ℕ) (p : ℕ → Bool) → all_below n p ≡ true → p n ≡ true → all_below (n + 1) p ≡ true
+all_below_more n p h e = rw add-one (ap₂ ◌&&◌ e h)
+
 pub least_below_more : (n : ℕ) (f : ℕ → ℕ) (most : ℕ) → least_below (n + 1) f most ≡ min (f n) (least_below n f most)
 least_below_more n f most = rw add-one refl
+
+-- the least is no more than any of the numbers
+pub least_at : (n : ℕ) (f : ℕ → ℕ) (most j : ℕ) → j < n → least_below n f most ≤ f j
+least_at zero f most j h = absurd (let z : j < 0 = h in omega arith)
+least_at (suc n) f most j h =
+    elim (cases_eq j n) [
+      | inl e ↦ (let p : f j ≡ f n = ap f e in omega arith)
+      | inr e ↦ (let p = least_at n f most j (omega arith) in omega arith)
+    ]
 
 pub cond_same : {X : Type 0} (b : Bool) (x y z : X) → (b ≡ true → x ≡ y) → cond b x z ≡ cond b y z
 cond_same true x y z h = h refl
@@ -37,6 +57,13 @@ post_refused t f h = net_path _ _ refl refl (λ j. refl) (λ i j.
     let q = and_parts (accepts t i) (hears t i j) p.1 in
     absurd (both_ways (accepts t i) (ap (accepts t) (eqb-true i f.sender.value p.0) ∙ h) q.0))
     (λ _. refl))
+
+-- closing a printer that there is not changes nothing
+pub close_none : {B : Type 0} (t : Net B) (p : ℕ) → t.size ≤ p → t ≡ after_close t p
+close_none t p h = net_path _ _ refl refl (λ j. sym (cond-false _ _ _ (past j))) (λ i j. sym (cond-false _ _ _ (past j)))
+  where
+    past : (j : ℕ) → (eqb j p && ltb j t.size) ≡ false
+    past j = grind (arith, nat_tests)
 
 -- where a post is accepted, each pair that it lengthens has room
 pub accepts_room : {B : Type 0} (t : Net B) (s j : ℕ) → accepts t s ≡ true → j < t.size → hears t s j ≡ true →

@@ -25,11 +25,11 @@ module _ {B : Type 0} (t : Net B) (s : ℕ) where
     go true = least_most t.size (room t s) t.limit
     go false = omega arith
 
-  some_accepted : 0 < most_posts t s → accepts t s ≡ true
+  pub some_accepted : 0 < most_posts t s → accepts t s ≡ true
   some_accepted h = accepts_spare t s (let l = within_limit in omega arith) ∙ lt-ltb 0 (most_posts t s) h
 
   -- a post takes at most one from what can still be posted
-  one_fewer : (f : Frame B) → f.sender.value ≡ s → most_posts t s ≤ suc (most_posts (after_post t f) s)
+  pub one_fewer : (f : Frame B) → f.sender.value ≡ s → most_posts t s ≤ suc (most_posts (after_post t f) s)
   one_fewer f e = go (has t s) where
     held : (j : ℕ) (b : Bool) → length (cond b (t.waiting s j ++ f ∷ []) (t.waiting s j)) ≤ suc (length (t.waiting s j))
     held j true = omega (arith, length_push (t.waiting s j) f)

@@ -27,6 +27,13 @@ none_left (suc k) [] e = omega arith
 none_left (suc k) (x ∷ xs) e = let h = none_left k xs e in omega arith
 
 module _ {B : Type 0} (t : Net B) (s d : ℕ) where
+  pub takes_none : after_takes t s d 0 ≡ t
+  takes_none = net_path _ _ refl refl (λ j. refl) (λ i j. same ((eqb i s && eqb j d) && (has t i && has t j)) (t.waiting i j))
+    where
+      same : {A : Type 0} (b : Bool) (xs : List A) → cond b (drop 0 xs) xs ≡ xs
+      same true xs = refl
+      same false xs = refl
+
   pub takes_more : (k : ℕ) → after_take (after_takes t s d k) s d ≡ after_takes t s d (k + 1)
   takes_more k = net_path _ _ refl refl (λ j. refl) (λ i j. same ((eqb i s && eqb j d) && (has t i && has t j)) (t.waiting i j))
     where

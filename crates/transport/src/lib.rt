@@ -10,6 +10,7 @@ mod meaning;
 mod members;
 mod pairs;
 mod places;
+mod queues;
 mod series;
 mod storing;
 
@@ -22,5 +23,6 @@ pub use meaning::Transport;
 pub use members::Members;
 pub use pairs::PairTable;
 pub use places::place_after;
+pub use queues::Queues;
 pub use series::sure_of_posts;
 pub use storing::stored_frame;

@@ -1,6 +1,7 @@
 // Which printers there are, and which of them are open.
 ghost use Rattle.std.specs.Prelude.{◌≤◌};
 
+use crate::queues::Queues;
 use frame::PrinterCount;
 
 // The printers of a hall, at most eight. The flag of a printer that there is not counts for nothing: fixed memory has a
@@ -66,31 +67,23 @@ impl Members {
         }
     }
 
-    // How many more frames a pair may get where so many wait; the limit, if the receiver does not hear the sender.
-    fn room(&self, sender: u32, receiver: u32, limit: usize, waiting: usize) -> usize
-        ensures { result ≡ cond (hears_in self.now sender receiver) (limit - waiting) limit }
-    {
-        if self.hears(sender, receiver) {
-            limit.saturating_sub(waiting)
-        } else {
-            limit
-        }
-    }
-
-    // How many posts a sender could make in a row, where a pair holds at most `limit` frames, and `waits` tells how many
-    // wait for each receiver.
-    pub fn most_posts<F: Fn(u32) -> usize>(&self, sender: u32, limit: usize, waits: F) -> usize
-        requires { F.IsAlwaysCallable waits }
-        ensures { (w : ℕ → ℕ) → ((j k : ℕ) → j < self.now.size → F.post waits j k → k ≡ w j) → result ≡ cond (nat_lt sender self.now.size) (least_below self.now.size (λ j. cond (hears_in self.now sender j) (limit - w j) limit) limit) 0 }
+    // How many posts a sender could make in a row, where a pair holds at most `limit` frames.
+    pub fn most_posts<Q: Queues>(&self, sender: u32, limit: usize, queues: &Q) -> usize
+        ensures { result ≡ cond (nat_lt sender self.now.size) (least_below self.now.size (λ j. cond (hears_in self.now sender j) (limit - Q.queued queues.now sender j) limit) limit) 0 }
     {
         if sender >= self.size {
             return 0;
         }
-        // A loop: the proof of a chain over a closure that is a parameter did not close.
+        // A loop: it ends at the first full pair.
         let mut least = limit;
         for receiver in 0..self.size {
-            let room = self.room(sender, receiver, limit, waits(receiver));
-            least = room.min(least);
+            if self.hears(sender, receiver) {
+                let waiting = queues.waiting(sender, receiver);
+                if waiting >= limit {
+                    return 0;
+                }
+                least = least.min(limit - waiting);
+            }
         }
         least
     }

@@ -1,8 +1,9 @@
 // Tables of what is kept for each ordered pair of printers.
-ghost use Rattle.std.specs.Prelude.{◌≡◌, ◌+◌, ◌*◌, ◌<◌, length};
+ghost use Rattle.std.specs.Prelude.{◌≡◌, ◌+◌, ◌*◌, length};
 
-// A value for each sender and receiver, of up to eight printers, in fixed memory. Both are plain numbers, as in the calls
-// of a transport, which answer any number.
+use frame::PrinterNumber;
+
+// A value for each sender and receiver, of up to eight printers, in fixed memory.
 #[derive(Drop)]
 pub struct PairTable<T> {
     places: [T; 64],
@@ -10,12 +11,10 @@ pub struct PairTable<T> {
 }
 
 // Where a table has a pair.
-fn place(sender: u32, receiver: u32) -> usize
-    requires sender_there { sender < 8 }
-    requires receiver_there { receiver < 8 }
-    ensures { result ≡ sender * 8 + receiver }
+fn place(sender: PrinterNumber, receiver: PrinterNumber) -> usize
+    ensures { result ≡ sender.value * 8 + receiver.value }
 {
-    sender as usize * 8 + receiver as usize
+    sender.index() * 8 + receiver.index()
 }
 
 impl<T: Copy> PairTable<T> {
@@ -32,20 +31,16 @@ impl<T: Copy> PairTable<T> {
     }
 
     // What the table has for a pair.
-    pub fn get(&self, sender: u32, receiver: u32) -> T
-        requires sender_there { sender < 8 }
-        requires receiver_there { receiver < 8 }
-        ensures { (none : T) → result ≡ at_pair none self.now sender receiver }
+    pub fn get(&self, sender: PrinterNumber, receiver: PrinterNumber) -> T
+        ensures { (none : T) → result ≡ at_pair none self.now sender.value receiver.value }
     {
         let at = place(sender, receiver);
         self.places[at]
     }
 
     // Changes what the table has for one pair.
-    pub fn set(&mut self, sender: u32, receiver: u32, value: T)
-        requires sender_there { sender < 8 }
-        requires receiver_there { receiver < 8 }
-        ensures { (none : T) (i j : ℕ) → j < 8 → at_pair none self.new i j ≡ cond (i == sender && j == receiver) value (at_pair none self.old i j) }
+    pub fn set(&mut self, sender: PrinterNumber, receiver: PrinterNumber, value: T)
+        ensures { (none : T) (i j : ℕ) → j < 8 → at_pair none self.new i j ≡ cond (i == sender.value && j == receiver.value) value (at_pair none self.old i j) }
     {
         self.places[place(sender, receiver)] = value;
     }

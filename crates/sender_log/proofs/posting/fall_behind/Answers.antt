@@ -9,8 +9,8 @@ overflow_add-behind c =
     let m = c.args.members.now in
     let k = c.loop-receiver.receiver in
     let few = m.few in
-    let n = further_next m c.args.behinds.now c.loop-receiver.behinds c.args.sender k c.loop-receiver.invariant (omega arith) in
-    let r = c.requires.room k (omega arith) (sym c.if-hears.ensures) in
+    let n = further_next m c.args.behinds.now c.loop-receiver.behinds c.args.sender.value k c.loop-receiver.invariant (omega arith) in
+    let r = c.requires k (omega arith) (sym c.if-hears.ensures) in
     let e = c.get-behind.ensures 0 in
     omega arith
 
@@ -19,7 +19,7 @@ loop-receiver-preserved c =
     let m = c.args.members.now in
     let before = c.args.behinds.now in
     let now = c.loop-receiver.behinds in
-    let s = c.args.sender in
+    let s = c.args.sender.value in
     let k = c.loop-receiver.receiver in
     let few = m.few in
     let k8 : k < 8 = omega arith in

@@ -8,8 +8,8 @@ use Rattle.ring.proofs.ring.RingTransport.push.Goals as goal
 pub returns : goal.returns
 returns g c =
     let t = c.args.self.now in
-    let s = c.args.sender in
-    let d = c.args.receiver in
+    let s = c.args.sender.value in
+    let d = c.args.receiver.value in
     let e = c.get-start.ensures empty_circle in
     let at = c.cell_index-at.ensures.value ∙
     ap (cell t.members.size t.limit s d) (c.place_after-place.ensures.value ∙ ap (λ x. around t.limit x.start x.held) e) in
