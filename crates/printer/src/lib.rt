@@ -16,5 +16,6 @@ pub use printer::Printer;
 pub use refusals::{PrinterFault, PrinterRefusal};
 
 // What the steps of a printer speak of, so that a program needs only this crate.
+pub use frame::{PrinterCount, PrinterNumber, TicketNumber};
 pub use roles::{Configuration, Delays, Rank, RecordKind, Seat};
 pub use table::{Due, PrinterState, PrinterTable, Record};

@@ -9,3 +9,6 @@ mod seats;
 
 pub use delays::Delays;
 pub use seats::{Configuration, Rank, RecordKind, Seat};
+
+// What a record and a row of delays speak of.
+pub use frame::{PrinterCount, PrinterNumber};
