@@ -7,7 +7,7 @@ use Rattle.body.specs.declared.WireRefusal.TheVariants.{EndsTooSoon, LeftOver}
 use Rattle.wire.specs.Reading.{words_on, place}
 use Rattle.wire.specs.Filling.{next_word}
 
-drop_four : (bs : List ℕ) (i : ℕ) → i + 4 ≤ length bs →
+pub drop_four : (bs : List ℕ) (i : ℕ) → i + 4 ≤ length bs →
     drop i bs ≡ get_or bs i 0 ∷ (get_or bs (i + 1) 0 ∷ (get_or bs (i + 2) 0 ∷ (get_or bs (i + 3) 0 ∷ drop (i + 4) bs)))
 drop_four bs i h =
     let p = drop_more bs i 0 (omega arith) in

@@ -56,7 +56,7 @@ module _ {B : Type 0} (words : B → List ℕ) (allows : List ℕ → ℕ → Bo
     (written : (ws : List ℕ) → length ws ≡ count → in_order allows [] ws ≡ true → (b : B) × (words b ≡ ws))
     (rebuilding : (b : B) → rebuilt (words b) ≡ Some b) where
   -- words that were read make a frame
-  rest_made : (kind : FrameKind) (bs ws : List ℕ) (o : Option (Frame B)) → Bytes bs →
+  pub rest_made : (kind : FrameKind) (bs ws : List ℕ) (o : Option (Frame B)) → Bytes bs →
       words_on (kind_allows allows kind) (kind_count count kind) [] (drop 4 bs) ≡ Ok ws → o ≡ frame_rebuilt rebuilt kind ws →
       (f : Frame B) × (o ≡ Some f) × RestReads words allows count kind bs (Ok f)
   rest_made kind bs ws o small e q =
