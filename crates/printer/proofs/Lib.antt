@@ -1,3 +1,4 @@
 pub mod PostLaws
 pub mod Holds
 pub mod Receipts
+pub mod Steps
