@@ -1,3 +1,4 @@
+pub mod AnyOf
 pub mod Blank
 pub mod Changes
 pub mod Searches

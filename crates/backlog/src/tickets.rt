@@ -1,4 +1,4 @@
-// The held tickets. Chains go over `0..count`, since the definitions count issuers by number.
+// The held tickets. Most chains go over `0..count`, since the definitions count issuers by number.
 ghost use Rattle.std.specs.Prelude.{◌≡◌, ◌<◌, ◌≤◌, IfSome};
 ghost use Rattle.backlog.specs.Holdings.{holding_of, ticket_row};
 ghost use Rattle.backlog.specs.Tickets.{is_for, before, lesser, first_or, first_ticket, names, ticketed, tickets_held};
@@ -56,11 +56,14 @@ impl Row<Stub, 16> {
         ticket.or_before(other)
     }
 
-    // Whether a held ticket names this message.
+    // Whether a held ticket names this message. From the last one down: to test for 0 at each turn takes less than to test
+    // for a count.
     fn names(&self, sender: u32, message: MessageNumber) -> bool
         ensures { result ≡ names (ticket_row self.now) sender message.0 }
     {
-        (self.passed..self.passed + self.count).any(|m| self.slot(m).is_for(sender, message))
+        (0..self.count)
+            .rev()
+            .any(|i| self.slot(self.passed + i).is_for(sender, message))
     }
 }
 
@@ -81,15 +84,7 @@ impl Backlog {
         (0..count.value).fold(None, |first, issuer| self.first_or(issuer, first))
     }
 
-    // Whether a ticket of this issuer names this message.
-    fn names(&self, issuer: u32, sender: u32, message: MessageNumber) -> bool
-        requires { issuer < 8 }
-        ensures { result ≡ names ((holding_of self.now).tickets issuer) sender message.0 }
-    {
-        self.tickets[issuer as usize].names(sender, message)
-    }
-
-    // Whether a message has a ticket.
+    // Whether a message has a ticket. Over the rows themselves, which takes less than by number.
     pub(crate) fn is_ticketed(
         &self,
         count: PrinterCount,
@@ -98,7 +93,9 @@ impl Backlog {
     ) -> bool
         ensures { result ≡ ticketed count.value (holding_of self.now) sender message.0 }
     {
-        (0..count.value).any(|issuer| self.names(issuer, sender, message))
+        self.tickets[..count.value as usize]
+            .iter()
+            .any(|row| row.names(sender, message))
     }
 
     // How many tickets of this issuer are held.
