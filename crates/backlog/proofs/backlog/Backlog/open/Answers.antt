@@ -1,12 +1,7 @@
-use Rattle.std.proofs.Common.{refl}
-use mathlib.Core.Path.{fun_ext}
-use Rattle.backlog.specs.Blanks.{no_held, no_stub, no_row}
-use Rattle.backlog.specs.Holdings.{message_row, ticket_row, nothing_in}
-use Rattle.backlog.proofs.Blank.{alike}
+use Rattle.std.proofs.Common.{rules}
+use Rattle.backlog.proofs.Blank.{blank_tickets, nothing_in_rows}
 use Rattle.backlog.proofs.backlog.Backlog.open.Goals as goal
 
+-- of the rows it is asked what they hold, and not how they are made
 pub returns : goal.returns
-returns c =
-    let m = fun_ext (alike message_row 8 c.empty.result (no_row 8) (nothing_in no_held) c.empty.ensures refl) in
-    let t = fun_ext (alike ticket_row 8 c.empty-2.result (no_row 16) (nothing_in no_stub) c.empty-2.ensures refl) in
-    λ k. record { messages = m k; tickets = t k }
+returns c = nothing_in_rows _ _ (search rules) (search (rules, blank_tickets))

@@ -28,6 +28,8 @@ returns c =
     let b = c.args.self.now in
     let n = c.args.count.value in
     let more : (m : ℕ) → tickets_held (m + 1) (holding_of b) ≡ tickets_held m (holding_of b) + count b m = λ m. omega (arith, tickets_held_more m (holding_of b)) in
+    let held : c.sum.result ≡ tickets_held n (holding_of b) =
     sum_by_from_yields_List (count b) (range_with_len 0 n) c.map.result _ c.sum.ensures.ran
     (YieldsList-from_map _ (count b) (YieldsList-from_range 0 n n c.map.ensures.source (omega arith)) c.map.ensures.closure (λ x r q k. search (rules, tests)))
-    ∙ sum_below (count b) (λ m. tickets_held m (holding_of b)) refl more n
+    ∙ sum_below (count b) (λ m. tickets_held m (holding_of b)) refl more n in
+    search (rules, held)
