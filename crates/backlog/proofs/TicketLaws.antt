@@ -1,15 +1,31 @@
 -- What the definitions over issuers say of one issuer more.
-use Rattle.std.proofs.Common.{◌≡◌, ℕ, zero, suc, ◌+◌, ◌%◌, ◌<◌, ◌≤◌, false, eqb, IfSome, Some, None, Option, sym, refl, ap, inl, inr, add-one, arith}
+use Rattle.std.proofs.Common.{◌≡◌, ℕ, zero, suc, ◌+◌, ◌%◌, ◌<◌, ◌≤◌, false, eqb, List, [], ◌∷◌, length, get_or, IfSome, Some, None, Option, sym, refl, ap, ◌∙◌, inl, inr, add-one, arith}
+use Rattle.std.specs.List.{fold, range_with_len, zip}
 use Rattle.std.proofs.lemmas.Bool.{cond_both, cases_eq, eqb-false}
 use Rattle.roles.proofs.Functions.{put_same, put_other}
-use Rattle.backlog.specs.Holdings.{Holding, Row, popped, pass_first}
+use Rattle.backlog.specs.Blanks.{no_row}
+use Rattle.backlog.specs.Holdings.{Holding, Row, ticket_row, popped, pass_first}
 use Rattle.backlog.specs.Tickets.{first_ticket, first_or, lesser, before, issued_by, tickets_held}
+use Rattle.backlog.specs.declared.rows.Row as rows
 use Rattle.backlog.specs.declared.rows.Stub.{Stub}
 use Rattle.backlog.specs.declared.rows.Ticket.{Ticket}
 
 pub first_ticket_more : (b : ℕ) (h : Holding) → first_ticket (b + 1) h ≡ first_or b (h.tickets b) (first_ticket b h)
 unfolding first_ticket
 first_ticket_more b h = rw add-one refl
+
+-- the rows of the issuers from k on, one after the other
+pub first_of_rows : (h : Holding) (xs : List (rows.Row Stub 16)) (k n : ℕ) → n ≤ length xs →
+    ((i : ℕ) → i < n → ticket_row (get_or xs i (no_row 16)) ≡ h.tickets (k + i)) →
+    fold (λ o (p : rows.Row Stub 16 × ℕ). first_or p.1 (ticket_row p.0) o) (first_ticket k h) (zip xs (range_with_len k n)) ≡ first_ticket (k + n) h
+first_of_rows h [] k zero l same = ap (λ m. first_ticket m h) (omega arith)
+first_of_rows h (x ∷ xs) k zero l same = ap (λ m. first_ticket m h) (omega arith)
+first_of_rows h [] k (suc n) l same = absurd (omega arith)
+first_of_rows h (x ∷ xs) k (suc n) l same =
+    let row : ticket_row x ≡ h.tickets k = same 0 (omega arith) ∙ ap h.tickets (omega arith) in
+    let one : first_or k (ticket_row x) (first_ticket k h) ≡ first_ticket (k + 1) h = ap (λ r. first_or k r (first_ticket k h)) row ∙ sym (first_ticket_more k h) in
+    ap (λ o. fold (λ o (p : rows.Row Stub 16 × ℕ). first_or p.1 (ticket_row p.0) o) o (zip xs (range_with_len (k + 1) n))) one
+    ∙ first_of_rows h xs (k + 1) n (omega arith) (λ i m. same (suc i) (omega arith) ∙ ap h.tickets (omega arith)) ∙ ap (λ m. first_ticket m h) (omega arith)
 
 pub tickets_held_more : (b : ℕ) (h : Holding) → tickets_held (b + 1) h ≡ (h.tickets b).count + tickets_held b h
 tickets_held_more b h = rw add-one refl

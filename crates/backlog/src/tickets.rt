@@ -1,4 +1,5 @@
-// The held tickets. Most chains go over `0..count`, since the definitions count issuers by number.
+// The held tickets. Chains go over the rows themselves, which takes less time than to pick each by its number; only the
+// sum, which is seldom asked, goes over `0..count`.
 ghost use Rattle.std.specs.Prelude.{◌≡◌, ◌<◌, ◌≤◌, IfSome};
 ghost use Rattle.backlog.specs.Holdings.{holding_of, ticket_row};
 ghost use Rattle.backlog.specs.Tickets.{is_for, before, lesser, first_or, first_ticket, names, ticketed, tickets_held};
@@ -56,8 +57,8 @@ impl Row<Stub, 16> {
         ticket.or_before(other)
     }
 
-    // Whether a held ticket names this message. From the last one down: to test for 0 at each turn takes less than to test
-    // for a count.
+    // Whether a held ticket names this message. They are asked from the last one down: to compare with 0 at each takes
+    // less time than to compare with the count.
     fn names(&self, sender: u32, message: MessageNumber) -> bool
         ensures { result ≡ names (ticket_row self.now) sender message.0 }
     {
@@ -68,23 +69,18 @@ impl Row<Stub, 16> {
 }
 
 impl Backlog {
-    // The first held ticket of this issuer, if it stands before another.
-    fn first_or(&self, issuer: u32, other: Option<Ticket>) -> Option<Ticket>
-        requires { issuer < 8 }
-        ensures { result ≡ first_or issuer ((holding_of self.now).tickets issuer) other }
-    {
-        self.tickets[issuer as usize].first_or(issuer, other)
-    }
-
     // The first held ticket of all issuers.
     pub fn first_ticket(&self, count: PrinterCount) -> Option<Ticket>
         ensures answer { result ≡ first_ticket count.value (holding_of self.now) }
         ensures there { IfSome result (λ t. (t.issuer < count.value) × (0 < ((holding_of self.now).tickets t.issuer).count)) }
     {
-        (0..count.value).fold(None, |first, issuer| self.first_or(issuer, first))
+        self.tickets
+            .iter()
+            .zip(0..count.value)
+            .fold(None, |first, (row, issuer)| row.first_or(issuer, first))
     }
 
-    // Whether a message has a ticket. Over the rows themselves, which takes less than by number.
+    // Whether a message has a ticket.
     pub(crate) fn is_ticketed(
         &self,
         count: PrinterCount,
