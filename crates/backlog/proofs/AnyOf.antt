@@ -1,5 +1,5 @@
 -- What `any` answers of the first elements of an array, and of the numbers of a range from the last one down.
-use Rattle.std.proofs.Common.{◌≡◌, ℕ, zero, suc, ◌-◌, ◌<◌, ◌≤◌, Bool, true, false, ◌||◌, List, [], ◌∷◌, length, get_or, take, IfSome, MatchBool, IsTrue, Some, None, Option, sym, refl, ap, ◌∙◌, inl, inr, arith}
+use Rattle.std.proofs.Common.{◌≡◌, ℕ, zero, suc, ◌-◌, ◌<◌, ◌≤◌, Bool, true, false, ◌||◌, List, [], ◌∷◌, length, get_or, take, IfSome, MatchBool, IsTrue, Some, None, Option, sym, refl, ap, ◌∙◌, arith}
 use denote.Param.Members.{Mut}
 use Rattle.std.specs.Fn.{Called}
 use Rattle.std.specs.Iterator.Adapters.{rev_steps, RevKeepsRuns}
@@ -8,9 +8,9 @@ use Rattle.std.specs.List.{list_any}
 use Rattle.std.specs.declared.iter.Rev.{Rev}
 use Rattle.std.specs.declared.ops.Range.{Range}
 use Rattle.std.proofs.iter.runs.Sources.{nat_range_steps_back, range_runs_back}
-use Rattle.std.proofs.lemmas.Bool.{cases_eq}
 use Rattle.std.proofs.lemmas.Iterator.Adapters.{option_map_id}
 use Rattle.roles.specs.Functions.{any_below}
+use Rattle.roles.proofs.Functions.{any_below_at, any_below_none}
 use Rattle.roles.proofs.Ranges.{some_is}
 
 -- a test that holds of some number, begun with the lowest number
@@ -23,18 +23,6 @@ pub any_taken : {A : Type 0} (p : A → Bool) (xs : List A) (d : A) (n : ℕ) �
 any_taken p xs d zero l = refl
 any_taken p [] d (suc n) l = absurd (omega arith)
 any_taken p (x ∷ xs) d (suc n) l = ap (λ b. p x || b) (any_taken p xs d n (omega arith)) ∙ sym (any_below_first n (λ i. p (get_or (x ∷ xs) i d)))
-
--- what holds of a number below n, and what of none
-any_below_true : (n : ℕ) (p : ℕ → Bool) (i : ℕ) → i < n → p i ≡ true → any_below n p ≡ true
-any_below_true zero p i l h = absurd (omega arith)
-any_below_true (suc n) p i l h = elim (cases_eq i n) [
-  | inl e ↦ let d : p n ≡ true = ap p (sym e) ∙ h in ap (λ b. b || any_below n p) d
-  | inr e ↦ let d = any_below_true n p i (omega arith) h in grind arith
-]
-
-any_below_false : (n : ℕ) (p : ℕ → Bool) → ((i : ℕ) → i < n → p i ≡ false) → any_below n p ≡ false
-any_below_false zero p h = refl
-any_below_false (suc n) p h = let d = any_below_false n p (λ i l. h i (omega arith)) in let e = h n (omega arith) in grind arith
 
 -- what `rev` and then `any` answer of the numbers below n
 module _ {F : Type 0} {g : Mut F (ℕ × Unit {0}) Bool} (n : ℕ) (p : ℕ → Bool) (s : Range ℕ) (f : F)
@@ -69,8 +57,8 @@ module _ {F : Type 0} {g : Mut F (ℕ × Unit {0}) Bool} (n : ℕ) (p : ℕ → 
       let hit = some keeps in
       let k : ℕ = hit.0 in
       let below : k < u.len = hit.1 in
-      sym (any_below_true n p (n - 1 - k) (omega arith) (given true (n - 1 - k) (u.at k) (d.2 k below) (some_is _ (u.at k) hit.2)))
+      sym (any_below_at n p (n - 1 - k) (omega arith) (given true (n - 1 - k) (u.at k) (d.2 k below) (some_is _ (u.at k) hit.2)))
   any_back_below t false kept (u, from, all) =
       let d = down t u kept from in
       let len : u.len ≡ n = d.1 all.0 in
-      sym (any_below_false n p (λ i l. given false i (u.at (n - 1 - i)) (d.2 (n - 1 - i) (omega arith) ∙ ap Some (omega arith)) (all.1 keeps (n - 1 - i))))
+      sym (any_below_none n p (λ i l. given false i (u.at (n - 1 - i)) (d.2 (n - 1 - i) (omega arith) ∙ ap Some (omega arith)) (all.1 keeps (n - 1 - i))))
