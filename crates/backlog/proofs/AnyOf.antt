@@ -11,12 +11,7 @@ use Rattle.std.proofs.iter.runs.Sources.{nat_range_steps_back, range_runs_back}
 use Rattle.std.proofs.lemmas.Iterator.Adapters.{option_map_id}
 use Rattle.roles.specs.Functions.{any_below}
 use Rattle.roles.proofs.Functions.{any_below_at, any_below_none}
-use Rattle.roles.proofs.Ranges.{some_is}
-
--- a test that holds of some number, begun with the lowest number
-any_below_first : (n : ℕ) (p : ℕ → Bool) → any_below (suc n) p ≡ (p 0 || any_below n (λ i. p (suc i)))
-any_below_first zero p = refl
-any_below_first (suc n) p = let e = any_below_first n p in grind arith
+use Rattle.roles.proofs.Ranges.{any_below_first, some_is}
 
 -- a test that some of the first n elements passes, by their places
 pub any_taken : {A : Type 0} (p : A → Bool) (xs : List A) (d : A) (n : ℕ) → n ≤ length xs → list_any p (take n xs) ≡ any_below n (λ i. p (get_or xs i d))

@@ -20,7 +20,7 @@ use Rattle.roles.specs.Functions.{any_below, highest}
 use Rattle.roles.proofs.Functions.{highest_is}
 
 -- a test that holds of some number, begun with the lowest number
-any_below_first : (n : ℕ) (p : ℕ → Bool) → any_below (suc n) p ≡ (p 0 || any_below n (λ j. p (suc j)))
+pub any_below_first : (n : ℕ) (p : ℕ → Bool) → any_below (suc n) p ≡ (p 0 || any_below n (λ j. p (suc j)))
 any_below_first zero p = refl
 any_below_first (suc n) p = let e = any_below_first n p in grind arith
 
