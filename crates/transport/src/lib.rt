@@ -26,3 +26,6 @@ pub use places::place_after;
 pub use queues::Queues;
 pub use series::sure_of_posts;
 pub use storing::stored_frame;
+
+// What a table over pairs takes, so that its user needs only this crate.
+pub use frame::PrinterNumber;
